@@ -1,0 +1,11 @@
+pub mod Results
+pub mod Lists
+pub mod Faults
+pub mod Layout
+pub mod Structures
+pub mod Payloads
+pub mod Datagrams
+pub mod Laws
+pub mod Examples
+pub mod Places
+pub mod Views
