@@ -1,0 +1,5 @@
+pub mod Digits
+pub mod Pieces
+pub mod Steps
+pub mod Following
+pub mod Cuts

@@ -1,0 +1,6 @@
+use mathlib.Core.Path.{ap, _∙_}
+use Rattle.callsheet.proofs.Pieces.{three}
+use Rattle.callsheet.proofs.lines.add_front.Needs as need
+
+pub returns : need.returns
+returns c = three (c .in-Continue-add-number .ensures tt) (c .in-Continue-add-number-2 .ensures tt) (c .in-Continue-add-sender .ensures tt)

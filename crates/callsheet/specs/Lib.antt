@@ -1,0 +1,4 @@
+pub mod Text
+pub mod Windows
+pub mod Sheets
+pub mod Laws

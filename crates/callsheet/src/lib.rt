@@ -1,0 +1,13 @@
+// Makes the call sheet of a capture: its text, whole, record by record, or window by window.
+mod laws;
+mod lines;
+mod number;
+mod sheet;
+mod whole;
+mod window;
+
+pub use laws::examples_hold;
+pub use lines::record_lines;
+pub use lines::stop_line;
+pub use sheet::Sheet;
+pub use whole::sheet_of;

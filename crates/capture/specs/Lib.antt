@@ -1,0 +1,4 @@
+pub mod Stops
+pub mod Layout
+pub mod Records
+pub mod Views
