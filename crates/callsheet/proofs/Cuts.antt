@@ -2,19 +2,21 @@
 use mathlib.Core.Path.{_≡_, refl, sym, ap, subst, _∙_}
 use mathlib.Core.Bool.{Bool, true, false, cond, not, _||_}
 use mathlib.Core.List.{List, [], _∷_, _++_, append-assoc, append-nil}
-use Prim.Native.Nat.{ℕ, zero, suc, _+_, _-_}
+use Prim.Native.Nat.{ℕ, zero, suc, _+_, _-_, _<_}
 use native.Mathlib.Omega.{arith}
+use lib.ListN.{length}
 use Rattle.std.specs.declared.option.Option.{Option}
 use Rattle.std.specs.declared.option.Option.the-variants.{Some, None}
 use Rattle.std.specs.declared.result.Result.{Result}
 use Rattle.std.specs.declared.result.Result.the-variants.{Ok, Err}
 use Rattle.capture.specs.declared.stop.Stop.{Stop}
+use Rattle.capture.specs.Layout.{recordEnd}
 use Rattle.capture.specs.Records.{Sent, Place, placeOf, nextAt, placeAfter}
 use Rattle.capture.specs.Stops.{turnable}
-use Rattle.callsheet.specs.Laws.{joined, Windows-make-the-sheet}
+use Rattle.callsheet.specs.Laws.{joined, Windows-make-the-sheet, Less-than-a-record-waits, Laws-of-windows}
 use Rattle.callsheet.specs.Text.{Added, recordText, stopText, columnLine, sheetText}
 use Rattle.callsheet.specs.Windows.{Window, window, preceded, windowAt, linesOver}
-use Rattle.callsheet.proofs.Following.{followed, record-follows, stop-follows, place-follows, no-tail}
+use Rattle.callsheet.proofs.Following.{followed, record-follows, stop-follows, place-follows, no-tail, none-short, turnable-short}
 use Rattle.callsheet.proofs.Steps.{few, counted, linesFrom, lines-step, lines-none, lines-stop, window-step, window-none, window-stop}
 
 -- the lines of a window, with those still to come, are the lines that were to come before it
@@ -74,8 +76,27 @@ over (octets ∷ later) p =
     ∙ conserved _ false (followed p octets) (joined later) (nextAt (followed p octets)) refl (λ e. never e) refl
     ∙ ap (λ d. linesFrom (placeOf d (p .before))) (append-assoc (p .octets) octets (joined later))
 
-pub windows-make-the-sheet : Windows-make-the-sheet
+windows-make-the-sheet : Windows-make-the-sheet
 windows-make-the-sheet windows = ap (λ t. columnLine ++ t) (over windows (placeOf [] 0))
+
+-- what waits at the end of a window is less than a record
+abbrev Short : Window → Type 0
+Short w = w .more ≡ true → length (w .place .octets) < recordEnd (w .place .octets)
+
+stop-short : (u : Bool) (p : Place) (s : Stop) → u ≡ turnable (s .question) → Err s ≡ nextAt p → Short (cond (not u) (window (stopText s) false p) (window [] true p))
+stop-short true p s is e = λ _. turnable-short p s e (sym is)
+stop-short false p s is e = λ m. never m
+
+short : (k : ℕ) (p : Place) (r : Result (Option Sent) Stop) → k ≡ 999999 - p .before → r ≡ nextAt p → Short (windowAt false p)
+short zero p (Ok (Some s)) is e = let less = few p s e in absurd (omega arith)
+short (suc k) p (Ok (Some s)) is e =
+    let next = counted p (placeAfter p) s e refl in
+    subst Short (sym (window-step false p (placeAfter p) s e refl)) (short k (placeAfter p) (nextAt (placeAfter p)) (omega arith) refl)
+short k p (Ok None) is e = subst Short (sym (window-none false p e)) (λ _. none-short p e)
+short k p (Err s) is e = subst Short (sym (window-stop false p s e)) (stop-short (turnable (s .question)) p s refl e)
+
+pub laws-of-windows : Laws-of-windows
+laws-of-windows = record { sheet = windows-make-the-sheet; memory = λ p. short _ p (nextAt p) refl refl }
 
 -- a capture that is read whole, as one last window
 pub whole-sheet : (t t₁ t₂ d : List ℕ) (p q : Place) (more : Bool) → t ≡ [] → Added t columnLine t₁ → p ≡ placeOf d 0 → preceded t₁ (windowAt true p) ≡ window t₂ more q → t₂ ≡ sheetText d

@@ -2,22 +2,24 @@
 use mathlib.Core.Path.{_≡_, refl, sym, ap, _∙_}
 use mathlib.Core.Bool.{Bool, true, false, cond, not}
 use mathlib.Core.List.{List, [], _∷_, _++_, append-nil}
-use Prim.Native.Nat.{ℕ, _+_, _≤_}
+use Prim.Native.Nat.{ℕ, _+_, _≤_, _<_}
 use native.Mathlib.Omega.{arith}
 use lib.Dec.{leb, ltb, eqb}
 use lib.ListN.{length, take, drop, length-append, length-drop}
 use Rattle.std.proofs.shelf.Lists.{drop-append-le, take-append-le}
-use Rattle.std.proofs.shelf.Tests.{le-leb, leb-true}
+use Rattle.std.proofs.shelf.Tests.{le-leb, leb-true, leb-false, eqb-true}
 use Rattle.std.proofs.shelf.Ways.{tells}
+use Rattle.std.specs.Options.{okOr}
 use Rattle.std.specs.declared.option.Option.{Option}
 use Rattle.std.specs.declared.option.Option.the-variants.{Some, None}
 use Rattle.std.specs.declared.result.Result.{Result}
 use Rattle.std.specs.declared.result.Result.the-variants.{Ok, Err}
 use Rattle.datagram.specs.Results.{mapOk, ask}
+use Rattle.capture.specs.declared.stop.Question.the-variants.{HoldsRecord, IsDatagram, AmongFirst}
 use Rattle.capture.specs.declared.stop.Stop.{Stop}
 use Rattle.capture.specs.Layout.{bodyLength, recordEnd, recordBody}
-use Rattle.capture.specs.Records.{Sent, Place, placeOf, recordAt, nextAt, moved, placeAfter}
-use Rattle.capture.specs.Stops.{turnable}
+use Rattle.capture.specs.Records.{Sent, sentOf, isDatagram, Place, placeOf, recordAt, nextAt, moved, placeAfter}
+use Rattle.capture.specs.Stops.{stop, turnable}
 
 -- a place in the whole capture, where octets follow the window
 abbrev pub followed : Place → List ℕ → Place
@@ -92,3 +94,27 @@ place-follows p tail s e =
 
 pub no-tail : (p : Place) (tail : List ℕ) → tail ≡ [] → followed p tail ≡ p
 no-tail p tail none = ap (λ l. placeOf l (p .before)) (ap (λ l. p .octets ++ l) none ∙ append-nil (p .octets))
+
+-- where no record is given and octets to come may turn that, less than a record is there
+none-empty : (a b : Bool) (d : List ℕ) (e : Stop) (r : Result Sent Stop) → eqb (length d) 0 ≡ a → Ok None ≡ cond a (Ok None) (ask b e (mapOk Some r)) → length d ≡ 0
+none-empty true b d e r is h = eqb-true (length d) 0 is
+none-empty false false d e r is h = let z : _≡_ {A = ℕ} 0 1 = cc in absurd (omega arith)
+none-empty false true d e (Ok s) is h = let z : _≡_ {A = ℕ} 0 1 = cc in absurd (omega arith)
+none-empty false true d e (Err s) is h = let z : _≡_ {A = ℕ} 0 1 = cc in absurd (omega arith)
+
+pub none-short : (p : Place) → Ok None ≡ nextAt p → length (p .octets) < recordEnd (p .octets)
+none-short p e = omega (arith, none-empty (eqb (length (p .octets)) 0) (ltb (p .before) 999999) (p .octets) _ _ refl e)
+
+stop-short : (a b c g : Bool) (d body : List ℕ) (k : ℕ) (s : Stop) → leb (recordEnd d) (length d) ≡ c
+    → Err s ≡ cond a (Ok None) (ask b (stop AmongFirst 1000000) (mapOk Some (ask c (stop HoldsRecord k) (okOr (cond g (Some (sentOf body)) None) (stop IsDatagram k)))))
+    → turnable (s .question) ≡ true → length d < recordEnd d
+stop-short true b c g d body k s is h t = let z : _≡_ {A = ℕ} 0 1 = cc in absurd (omega arith)
+stop-short false false c g d body k s is h t = let q : s ≡ stop AmongFirst 1000000 = cc in let f : false ≡ true = ap (λ x. turnable (x .question)) (sym q) ∙ t in let z : _≡_ {A = ℕ} 0 1 = cc in absurd (omega arith)
+stop-short false true false g d body k s is h t = leb-false (recordEnd d) (length d) is
+stop-short false true true true d body k s is h t = let z : _≡_ {A = ℕ} 0 1 = cc in absurd (omega arith)
+stop-short false true true false d body k s is h t = let q : s ≡ stop IsDatagram k = cc in let f : false ≡ true = ap (λ x. turnable (x .question)) (sym q) ∙ t in let z : _≡_ {A = ℕ} 0 1 = cc in absurd (omega arith)
+
+pub turnable-short : (p : Place) (s : Stop) → Err s ≡ nextAt p → turnable (s .question) ≡ true → length (p .octets) < recordEnd (p .octets)
+turnable-short p s e t =
+    let d = p .octets in
+    stop-short (eqb (length d) 0) (ltb (p .before) 999999) (leb (recordEnd d) (length d)) (isDatagram (recordBody d)) d (recordBody d) (p .before + 1) s refl e t

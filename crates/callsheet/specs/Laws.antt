@@ -1,11 +1,13 @@
--- The law of windows, and worked examples. Assumes nothing.
+-- The laws of windows. Assumes nothing.
 use mathlib.Core.Path.{_≡_}
+use mathlib.Core.Bool.{true, false}
 use mathlib.Core.List.{List, [], _∷_, _++_}
-use Prim.Native.Nat.{ℕ}
-use lib.Chars.{codes}
-use Rattle.capture.specs.Records.{placeOf}
+use Prim.Native.Nat.{ℕ, _<_}
+use lib.ListN.{length}
+use Rattle.capture.specs.Layout.{recordEnd}
+use Rattle.capture.specs.Records.{Place, placeOf}
 use Rattle.callsheet.specs.Text.{columnLine, sheetText}
-use Rattle.callsheet.specs.Windows.{linesOver}
+use Rattle.callsheet.specs.Windows.{windowAt, linesOver}
 
 abbrev pub joined : List (List ℕ) → List ℕ
 joined [] = []
@@ -15,13 +17,10 @@ joined (x ∷ xs) = x ++ joined xs
 abbrev pub Windows-make-the-sheet : Type 0
 Windows-make-the-sheet = (windows : List (List ℕ)) → columnLine ++ linesOver (placeOf [] 0) windows ≡ sheetText (joined windows)
 
--- a call message of 10.0.0.7, and a datagram that is too short
-abbrev pub twoRecords : List ℕ
-twoRecords =
-    0x18 ∷ 0x00 ∷ 0x01 ∷ 0x00 ∷ 0x0A ∷ 0x00 ∷ 0x00 ∷ 0x07 ∷ 0xB8 ∷ 0x06 ∷ 0x3C ∷ 0x00 ∷ 0x00 ∷ 0x00 ∷ 0x01 ∷ 0x00 ∷ 0x00 ∷ 0x05 ∷ 0x00 ∷ 0x02 ∷ 0x00 ∷ 0x01 ∷ 0x00 ∷ 0x02 ∷ 0xAB ∷ 0xCD
-    ∷ 0x0F ∷ 0x00 ∷ 0x01 ∷ 0x00 ∷ 0x0A ∷ 0x00 ∷ 0x00 ∷ 0x07 ∷ 0xB8 ∷ 0x06 ∷ 0x3D ∷ 0x00 ∷ 0x00 ∷ 0x00 ∷ 0x00 ∷ 0x00 ∷ 0x00 ∷ []
+-- while more may follow, what is kept of a window is less than one whole record, whatever the size of the capture
+abbrev pub Less-than-a-record-waits : Type 0
+Less-than-a-record-waits = (p : Place) → windowAt false p .more ≡ true → length (windowAt false p .place .octets) < recordEnd (windowAt false p .place .octets)
 
-pub record Examples : Type 0 where
-  pub two-records : sheetText twoRecords ≡ codes "rec sec from num type call len\n1 60 10.0.0.7:1720 5 1 1 2\n2 61 10.0.0.7:1720 fault 21 3\n"
-  pub half-a-length : sheetText (0x18 ∷ []) ≡ codes "rec sec from num type call len\nstop 40 1\n"
-  pub no-octets : sheetText [] ≡ codes "rec sec from num type call len\n"
+pub record Laws-of-windows : Type 0 where
+  pub sheet : Windows-make-the-sheet
+  pub memory : Less-than-a-record-waits

@@ -16,7 +16,7 @@ use datagram::PayloadsInOrder;
 use std::alloc::AllocError;
 use std::alloc::Global;
 
-pub fn add_column_line(text: &mut Vec<u8>) -> Result<(), AllocError>
+pub(crate) fn add_column_line(text: &mut Vec<u8>) -> Result<(), AllocError>
     ensures { λ r. ⌜ made r (λ _. Added (vec-items (now (text .entry))) columnLine (vec-items (now (text .exit)))) ⌝ }
 {
     text.extend_from_slice(b"rec sec from num type call len\n")?;
@@ -73,7 +73,7 @@ fn add_fault(text: &mut Vec<u8>, fault: Fault) -> Result<(), AllocError>
     Ok(())
 }
 
-pub fn add_stop(text: &mut Vec<u8>, stop: Stop) -> Result<(), AllocError>
+pub(crate) fn add_stop(text: &mut Vec<u8>, stop: Stop) -> Result<(), AllocError>
     ensures { λ r. ⌜ made r (λ _. Added (vec-items (now (text .entry))) (stopText stop) (vec-items (now (text .exit)))) ⌝ }
 {
     text.extend_from_slice(b"stop ")?;
@@ -83,7 +83,7 @@ pub fn add_stop(text: &mut Vec<u8>, stop: Stop) -> Result<(), AllocError>
 }
 
 // The lines of record `number`. The front of its lines is made once, in `front`, and what that held is lost.
-pub fn add_record(
+pub(crate) fn add_record(
     text: &mut Vec<u8>,
     front: &mut Vec<u8>,
     number: u32,

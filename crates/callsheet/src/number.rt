@@ -31,7 +31,7 @@ fn put_number(digits: &mut [u8; ROOM], n: usize, sign: u8) -> usize
     at
 }
 
-pub fn add_number(text: &mut Vec<u8>, n: usize, sign: u8) -> Result<(), AllocError>
+pub(crate) fn add_number(text: &mut Vec<u8>, n: usize, sign: u8) -> Result<(), AllocError>
     ensures { λ r. ⌜ made r (λ _. Added (vec-items (now (text .entry))) (ended sign n) (vec-items (now (text .exit)))) ⌝ }
 {
     let mut digits = [0; ROOM];

@@ -3,7 +3,7 @@ ghost use mathlib.Core.Path.{_≡_};
 ghost use Rattle.std.specs.Of.Vec.{vec-items};
 ghost use Rattle.std.specs.Vec.{made, refused};
 ghost use Rattle.capture.specs.Records.{placeOf};
-ghost use Rattle.callsheet.specs.Laws.{Windows-make-the-sheet};
+ghost use Rattle.callsheet.specs.Laws.{Laws-of-windows};
 ghost use Rattle.callsheet.specs.Sheets.{Begun, ReadTo, Unread};
 ghost use Rattle.callsheet.specs.Windows.{window, windowAt, preceded};
 use crate::lines::add_column_line;
@@ -25,7 +25,7 @@ impl Sheet {
     // Before the first octet of a capture: its text is the column line.
     pub fn begin(heap: Global) -> Result<Sheet, AllocError>
         ensures begins { λ r. ⌜ made r Begun ⌝ }
-        ensures law { λ _. ⌜ Windows-make-the-sheet ⌝ }
+        ensures laws { λ _. ⌜ Laws-of-windows ⌝ }
     {
         let mut text = Vec::new(heap);
         add_column_line(&mut text)?;
@@ -77,10 +77,13 @@ fn advance(
     ensures reads { λ r. ⌜ made r (λ more. preceded (vec-items (now (text .entry))) (windowAt last (placeOf (vec-items (now (unread .entry))) (now (before .entry)))) ≡ window (vec-items (now (text .exit))) more (placeOf (vec-items (now (unread .exit))) (now (before .exit)))) ⌝ }
     ensures stays { λ r. ⌜ refused r (λ _. (vec-items (now (unread .exit)) ≡ vec-items (now (unread .entry))) × (now (before .exit) ≡ now (before .entry))) ⌝ }
 {
-    let mut records = Records::start(unread.as_slice(), *before);
+    let mut records = Records {
+        rest: unread.as_slice(),
+        before: *before,
+    };
     let more = add_window(&mut records, last, text, front)?;
-    let rest = Vec::from_slice(unread.allocator(), records.rest())?;
-    *before = records.before();
+    let rest = Vec::from_slice(unread.allocator(), records.rest)?;
+    *before = records.before;
     *unread = rest;
     Ok(more)
 }

@@ -15,7 +15,10 @@ pub fn sheet_of(heap: Global, file: &[u8]) -> Result<Vec<u8>, AllocError>
     let mut text = Vec::new(heap);
     let mut front = Vec::new(heap);
     add_column_line(&mut text)?;
-    let mut records = Records::start(file, 0);
+    let mut records = Records {
+        rest: file,
+        before: 0,
+    };
     let _ = add_window(&mut records, true, &mut text, &mut front)?;
     Ok(text)
 }

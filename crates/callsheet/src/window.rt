@@ -45,15 +45,14 @@ fn add_next(
                 }
                 return Ok(Step::Unfinished);
             };
-            let number = records.before();
-            add_record(text, front, number, &record)?;
+            add_record(text, front, records.before, &record)?;
             Ok(Step::Record)
         }
     }
 }
 
 // Adds the lines of all that is whole in a window, and answers whether octets to come may add to them.
-pub fn add_window(
+pub(crate) fn add_window(
     records: &mut Records,
     last: bool,
     text: &mut Vec<u8>,

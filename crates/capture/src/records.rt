@@ -1,11 +1,8 @@
 // The records of a capture, one by one.
 ghost use mathlib.Core.Path.{_≡_};
-ghost use Prim.Native.Nat.{_≤_};
-ghost use lib.ListN.{length};
 ghost use Rattle.std.specs.Options.{mapped};
-ghost use Rattle.std.specs.Vec.{refused};
 ghost use Rattle.datagram.specs.Results.{mapOk};
-ghost use Rattle.capture.specs.Records.{placeOf, nextAt, placeAfter};
+ghost use Rattle.capture.specs.Records.{nextAt, placeAfter};
 ghost use Rattle.capture.specs.Views.{recordSays, placeSays};
 use crate::record::Record;
 use crate::stop::Question;
@@ -14,37 +11,14 @@ use crate::stop::Stop;
 // A capture has at most so many records.
 const MOST: u32 = 999_999;
 
-// The octets from some record on, and how many records came before.
+// The octets from some record on, and how many records came before. A capture begins with all its octets and 0.
 #[derive(Clone, Copy)]
 pub struct Records<'f> {
-    rest: &'f [u8],
-    before: u32,
+    pub rest: &'f [u8],
+    pub before: u32,
 }
 
 impl<'f> Records<'f> {
-    pub fn start(octets: &'f [u8], before: u32) -> Records<'f>
-        ensures { λ r. ⌜ placeSays r ≡ placeOf (now (octets .entry)) before ⌝ }
-    {
-        Records {
-            rest: octets,
-            before,
-        }
-    }
-
-    // The octets that no record was read from yet.
-    pub fn rest(&self) -> &'f [u8]
-        ensures { λ r. ⌜ now r ≡ placeSays (now (self .entry)) .octets ⌝ }
-    {
-        self.rest
-    }
-
-    // How many records came before those that are still to be read.
-    pub fn before(&self) -> u32
-        ensures { λ r. ⌜ r ≡ placeSays (now (self .entry)) .before ⌝ }
-    {
-        self.before
-    }
-
     // The next record; `None` where the capture ends with its last one. A stop leaves the place as it was.
     pub fn next(&mut self) -> Result<Option<Record<'f>>, Stop>
         ensures gives { λ r. ⌜ mapOk (mapped recordSays) r ≡ nextAt (placeSays (now (self .entry))) ⌝ }

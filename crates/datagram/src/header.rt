@@ -16,7 +16,7 @@ pub struct Header {
 }
 
 impl Header {
-    pub fn read(datagram: &[u8]) -> Result<Header, Fault>
+    pub(crate) fn read(datagram: &[u8]) -> Result<Header, Fault>
         ensures { λ r. ⌜ r ≡ headerOf (now (datagram .entry)) ⌝ }
     {
         if datagram.len() > MAXIMUM {

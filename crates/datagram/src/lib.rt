@@ -1,9 +1,9 @@
 // Reads H.323 Annex E datagrams: a header, then payloads with their structures, as views of the caller's octets.
 mod content;
 mod datagram;
+mod example;
 mod fault;
 mod header;
-mod laws;
 mod payload;
 mod payloads;
 mod reader;
@@ -11,10 +11,16 @@ mod structure;
 
 pub use content::Content;
 pub use datagram::Datagram;
+pub use example::ack_of_five;
 pub use fault::Fault;
+pub use fault::FaultDebug;
+pub use fault::FaultPartialEq;
 pub use fault::Layer;
+pub use fault::LayerDebug;
+pub use fault::LayerPartialEq;
 pub use fault::Question;
-pub use laws::examples_hold;
+pub use fault::QuestionDebug;
+pub use fault::QuestionPartialEq;
 pub use payload::Payload;
 pub use payloads::Payloads;
 pub use payloads::PayloadsInOrder;

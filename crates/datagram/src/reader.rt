@@ -18,7 +18,7 @@ pub struct Reader<'d> {
 
 impl<'d> Reader<'d> {
     // At the first payload, past the datagram's header of five octets.
-    pub fn start(datagram: &'d [u8], payloads: usize) -> Reader<'d>
+    pub(crate) fn start(datagram: &'d [u8], payloads: usize) -> Reader<'d>
         ensures { λ r. ⌜ placeSays r ≡ firstPlace (now (datagram .entry)) payloads ⌝ }
     {
         Reader {
@@ -29,7 +29,7 @@ impl<'d> Reader<'d> {
     }
 
     // The next payload; `None` where the datagram ends with its last one. A fault leaves the place as it was.
-    pub fn next(&mut self) -> Result<Option<Payload<'d>>, Fault>
+    pub(crate) fn next(&mut self) -> Result<Option<Payload<'d>>, Fault>
         ensures gives { λ r. ⌜ mapOk (mapped payloadSays) r ≡ nextAt (placeSays (now (self .entry))) ⌝ }
         ensures moves { λ _. ⌜ placeSays (now (self .exit)) ≡ placeAfter (placeSays (now (self .entry))) ⌝ }
     {

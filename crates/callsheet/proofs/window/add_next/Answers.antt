@@ -17,7 +17,7 @@ returns-in-Continue-add-record c =
     let e : Ok (Some s) ≡ nextAt p = rw (c .in-Some .is) at (c .in-Ok .ensures tt .gives) in
     let m = c .next .ensures .moves in
     record {
-      adds = adds-record (c .args .last) _ _ p q s _ e m (c .before-number .ensures) (c .in-Continue-add-record .ensures tt);
+      adds = adds-record (c .args .last) _ _ p q s _ e m refl (c .in-Continue-add-record .ensures tt);
       moves = record { less = few p s e; next = counted p q s e m };
     }
 
