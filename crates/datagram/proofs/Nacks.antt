@@ -13,7 +13,8 @@ use Rattle.std.specs.declared.option.Option.the-variants.{Some, None}
 use Rattle.std.specs.declared.result.Result.the-variants.{Ok, Err}
 use Rattle.datagram.specs.Layout.{octet, be16, be24, entryEnd, innerCount}
 use Rattle.datagram.specs.Lists.{Takes}
-use Rattle.datagram.specs.Structures.{Entry, Entries, entryOf, entries, meetEnd, firstIn, firstEntry, without, afterFirst, miscounts, nackOf, reasonFor}
+use Rattle.datagram.specs.Places.{Entries, firstIn, firstEntry, without, afterFirst}
+use Rattle.datagram.specs.Structures.{Entry, entryOf, entries, meetEnd, miscounts, nackOf, reasonFor}
 use Rattle.datagram.proofs.Taking.{taken}
 
 abbrev pub standing : ℕ → List ℕ → Entries

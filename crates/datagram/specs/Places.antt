@@ -1,4 +1,5 @@
--- Reading payload by payload: the steps that the code takes, by the definitions of a whole datagram. Assumes nothing.
+-- Reading payload by payload and entry by entry: the steps that the code takes, by the definitions of the whole. Assumes nothing.
+use mathlib.Core.Bool.{Bool, cond}
 use mathlib.Core.List.{List, [], _∷_}
 use Prim.Native.Nat.{ℕ, zero, suc, _-_}
 use lib.Dec.{leb}
@@ -12,8 +13,10 @@ use Rattle.datagram.specs.declared.fault.Layer.the-variants as layer
 use Rattle.datagram.specs.declared.fault.Fault.{Fault}
 use Rattle.datagram.specs.Datagrams.{payloadsFrom}
 use Rattle.datagram.specs.Faults.{no}
+use Rattle.datagram.specs.Layout.{entryEnd}
 use Rattle.datagram.specs.Payloads.{Payload, past, payloadAt}
 use Rattle.datagram.specs.Results.{mapOk, ask}
+use Rattle.datagram.specs.Structures.{Entry, entryOf, meetEnd}
 
 -- a datagram that was read up to an offset, with so many payloads still to come
 pub record Place : Type 0 where
@@ -57,3 +60,25 @@ soundFrom (suc n) d at = unlessFault (payloadAt (drop at d) at) (λ p. p ∷ sou
 
 abbrev pub soundAhead : Place → List Payload
 soundAhead p = soundFrom (p .left) (p .octets) (p .from)
+
+-- a Nack that is read entry by entry: so many are still to come, in these octets
+pub record Entries : Type 0 where
+  pub count : ℕ
+  pub octets : List ℕ
+
+abbrev pub entriesMeetEnd : Entries → Bool
+entriesMeetEnd e = meetEnd (e .count) (e .octets)
+
+abbrev pub firstIn : ℕ → List ℕ → Option Entry
+firstIn zero d = None
+firstIn (suc n) d = cond (leb (entryEnd d) (length d)) (Some (entryOf d)) None
+
+abbrev pub firstEntry : Entries → Option Entry
+firstEntry e = firstIn (e .count) (e .octets)
+
+abbrev pub without : Entries → Option Entry → Entries
+without e None = e
+without e (Some x) = record { count = e .count - 1; octets = drop (entryEnd (e .octets)) (e .octets) }
+
+abbrev pub afterFirst : Entries → Entries
+afterFirst e = without e (firstEntry e)

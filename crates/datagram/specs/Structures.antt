@@ -1,7 +1,7 @@
 -- What the data of a payload holds, by the payload's type, or the question that it fails. Assumes nothing.
 use mathlib.Core.Bool.{Bool, false, cond, _&&_, _||_}
 use mathlib.Core.List.{List, [], _∷_}
-use Prim.Native.Nat.{ℕ, zero, suc, _+_, _-_, _*_}
+use Prim.Native.Nat.{ℕ, zero, suc, _+_, _*_}
 use lib.Dec.{leb, eqb}
 use lib.ListN.{length, take, drop}
 use Rattle.std.specs.declared.option.Option.{Option}
@@ -94,28 +94,6 @@ entries (suc n) d = cond (leb (entryEnd d) (length d)) (entryOf d ∷ entries n 
 abbrev pub meetEnd : ℕ → List ℕ → Bool
 meetEnd zero d = eqb (length d) 0
 meetEnd (suc n) d = leb (entryEnd d) (length d) && meetEnd n (drop (entryEnd d) d)
-
--- a Nack that is read entry by entry: so many are still to come, in these octets
-pub record Entries : Type 0 where
-  pub count : ℕ
-  pub octets : List ℕ
-
-abbrev pub entriesMeetEnd : Entries → Bool
-entriesMeetEnd e = meetEnd (e .count) (e .octets)
-
-abbrev pub firstIn : ℕ → List ℕ → Option Entry
-firstIn zero d = None
-firstIn (suc n) d = cond (leb (entryEnd d) (length d)) (Some (entryOf d)) None
-
-abbrev pub firstEntry : Entries → Option Entry
-firstEntry e = firstIn (e .count) (e .octets)
-
-abbrev pub without : Entries → Option Entry → Entries
-without e None = e
-without e (Some x) = record { count = e .count - 1; octets = drop (entryEnd (e .octets)) (e .octets) }
-
-abbrev pub afterFirst : Entries → Entries
-afterFirst e = without e (firstEntry e)
 
 abbrev pub nackOf : List ℕ → ℕ → Result (List Entry) Fault
 nackOf s at =

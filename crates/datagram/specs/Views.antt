@@ -15,8 +15,8 @@ use Rattle.datagram.specs.declared.structure.nack.Nack.{Nack}
 use Rattle.datagram.specs.declared.structure.nonstandard.NonStandard as nonstandard
 use Rattle.datagram.specs.Datagrams.{Datagram}
 use Rattle.datagram.specs.Payloads.{Payload}
-use Rattle.datagram.specs.Places.{Place, place, soundAhead}
-use Rattle.datagram.specs.Structures.{Alive, Entry, NonStandard, Content, callMessage, iAmAlive, ack, nack, nonStandard, unsupported, numbers, entries, Entries}
+use Rattle.datagram.specs.Places.{Place, place, soundAhead, Entries}
+use Rattle.datagram.specs.Structures.{Alive, Entry, NonStandard, Content, callMessage, iAmAlive, ack, nack, nonStandard, unsupported, numbers, entries}
 
 abbrev pub aliveSays : alive.Alive → Alive
 aliveSays a = record { validity = a .validity; wantsReply = a .«wants_reply»; cookie = mapped (λ c. c .now) (a .cookie) }

@@ -1,5 +1,5 @@
 use mathlib.Core.Path.{_≡_}
-use Rattle.datagram.specs.Structures.{entriesMeetEnd}
+use Rattle.datagram.specs.Places.{entriesMeetEnd}
 use Rattle.datagram.specs.Views.{entriesIn}
 use Rattle.datagram.proofs.structure.nack.Nack.meets_end.Given as given
 
