@@ -4,6 +4,7 @@ ghost use Rattle.std.specs.Of.Vec.{vec-items};
 ghost use Rattle.std.specs.Vec.{made};
 ghost use Rattle.datagram.specs.Views.{payloadSays, payloadsSay};
 ghost use Rattle.capture.specs.Views.{recordSays};
+ghost use Rattle.callsheet.specs.Laws.{Records-make-the-sheet};
 ghost use Rattle.callsheet.specs.Text.{Added, senderText, frontText, payloadText, payloadLines, faultText, recordText, stopText, columnLine};
 use crate::number::add_number;
 use capture::Record;
@@ -109,7 +110,8 @@ pub(crate) fn add_record(
 
 // The lines of one record of a capture, which is its record `number`.
 pub fn record_lines(heap: Global, number: u32, record: &Record) -> Result<Vec<u8>, AllocError>
-    ensures { λ r. ⌜ made r (λ lines. vec-items lines ≡ recordText number (recordSays (now («record» .entry)))) ⌝ }
+    ensures lines { λ r. ⌜ made r (λ lines. vec-items lines ≡ recordText number (recordSays (now («record» .entry)))) ⌝ }
+    ensures law { λ _. ⌜ Records-make-the-sheet ⌝ }
 {
     let mut lines = Vec::new(heap);
     let mut front = Vec::new(heap);

@@ -45,7 +45,7 @@ impl Sheet {
     }
 
     // Makes the lines of all that is whole in `unread`, which keeps the rest, and answers whether more may follow.
-    // The last window is the one that nothing was added to. Want of memory leaves no text, and everything unread.
+    // `last` says that no octet will follow. Want of memory leaves no text, and everything unread.
     pub fn read_window(&mut self, last: bool) -> Result<bool, AllocError>
         ensures reads { λ r. ⌜ made r (ReadTo last (now (self .entry)) (now (self .exit))) ⌝ }
         ensures refuses { λ r. ⌜ refused r (λ _. Unread (now (self .entry)) (now (self .exit))) ⌝ }

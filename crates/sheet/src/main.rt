@@ -30,6 +30,7 @@ fn print_sheet(rt: &LibcRuntime) -> Result<(), Failure> {
     let mut sheet = Sheet::begin(rt.alloc())?;
     let mut came = read_more(rt, &mut sheet)?;
     write_text(rt, &sheet)?;
+    // A loop that reads has to count its turns: nothing says that an input ends.
     for _ in 0..u64::MAX {
         let more = sheet.read_window(came == 0)?;
         write_text(rt, &sheet)?;
