@@ -1,7 +1,7 @@
 // Writes capture files for the peer to be compared on, always the same ones: every file has its
 // own fixed seed. Written from docs/FORMATS.md and docs/REFUSALS.md alone, like peer/sheet.rs.
 //
-// Usage: captures OUTDIR           the files of peer/compare, into a folder that exists
+// Usage: captures OUTDIR           the files of peer/compare-sheets, into a folder that exists
 //        captures --good N FILE    one capture of N good datagrams of the usual shape
 //        captures --worst N FILE   one capture of N datagrams whose sheet is as long as can be
 // Build: rustc --edition 2021 -O peer/captures.rs

@@ -1,6 +1,6 @@
 // The peer of `sheet`: a second reader of Annex E captures and a second call sheet, in plain
 // Rust. It was written from docs/FORMATS.md and docs/REFUSALS.md alone, by someone who had not
-// seen the proved program. The gate compares the two octet for octet (peer/compare), and the
+// seen the proved program. The gate compares the two octet for octet (peer/compare-sheets), and the
 // bench takes this one as its measure of speed (bench/sheet).
 //
 // Usage: sheet < CAPTURE > SHEET

@@ -3,7 +3,7 @@
 //
 // Usage: timing RUNS CAPTURE OUTPUT PROGRAM...
 //        one line for each program: median ms, least ms, peak KiB
-// Build: rustc --edition 2021 -O peer/timing.rs
+// Build: rustc --edition 2021 -O bench/timing.rs
 //
 // The peak is wait4's ru_maxrss. Linux counts into it what the child held before it became the
 // program, so a peak is never told below about 1,100 KiB.

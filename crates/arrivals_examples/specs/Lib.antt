@@ -1,0 +1,2 @@
+-- What the worked examples say.
+pub mod Edges

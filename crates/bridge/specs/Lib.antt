@@ -1,0 +1,2 @@
+-- What the exported runs write.
+pub mod Runs

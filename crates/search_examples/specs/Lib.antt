@@ -1,0 +1,2 @@
+-- What the examples of the search mean.
+pub mod Peers
