@@ -59,7 +59,7 @@ is-type t k make r c typed same e =
     let m = mapped-back make r c e in
     ap typeOf (sym (m .2)) ∙ typed (m .0) ∙ sym (eqb-true t k same)
 
-type-kept : (t : ℕ) (x : List ℕ) (at : ℕ) (c : Content) → contentOf t x at ≡ Ok c → typeOf c ≡ t
+pub type-kept : (t : ℕ) (x : List ℕ) (at : ℕ) (c : Content) → contentOf t x at ≡ Ok c → typeOf c ≡ t
 type-kept t x at c e = one (either (eqb t 1) (Ok (callMessage x)) from3 c e)
   where
     from6 : Result Content Fault

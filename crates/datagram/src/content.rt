@@ -45,7 +45,8 @@ impl<'d> Content<'d> {
         }
     }
 
-    pub(crate) fn read(kind: u8, data: &'d [u8], offset: usize) -> Result<Content<'d>, Fault>
+    // The data of a payload of that type, whose first octet has the offset `offset`.
+    pub fn read(kind: u8, data: &'d [u8], offset: usize) -> Result<Content<'d>, Fault>
         ensures { λ r. ⌜ mapOk contentSays r ≡ contentOf kind (now («data» .entry)) offset ⌝ }
     {
         Ok(

@@ -1,0 +1,6 @@
+pub mod Values
+pub mod Bodies
+pub mod Refusals
+pub mod Drafts
+pub mod Pieces
+pub mod Runs
