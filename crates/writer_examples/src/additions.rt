@@ -9,11 +9,22 @@ use std::test::*;
 use writer::RefusalDebug;
 use writer::Writer;
 
-const CALLING: Alive = Alive {
-    validity: 0,
-    wants_reply: true,
-    cookie: None,
-};
+// Made in a function of its own, since a reference that is absent ties its value to nothing that the caller holds.
+fn calling<'c>() -> Alive<'c> {
+    Alive {
+        validity: 0,
+        wants_reply: true,
+        cookie: None,
+    }
+}
+
+fn with_cookie(cookie: &[u8]) -> Alive {
+    Alive {
+        validity: 0x0102,
+        wants_reply: false,
+        cookie: Some(cookie),
+    }
+}
 
 #[test]
 fn an_ack() -> Result<(), Fail> {
@@ -48,7 +59,7 @@ fn an_alive_that_wants_a_reply() -> Result<(), Fail> {
     let mut out = [FILLER; 40];
     let mut writer = Writer::over(&mut out);
     writer.open(9, false)?;
-    writer.add_alive(0, CALLING)?;
+    writer.add_alive(0, calling())?;
     check_eq(writer.close()?, 14)?;
     check(begins(&out, &[0, 0, 0, 9, 0, 6, 0, 0, 0, 4, 0, 0, 0, 1]))
 }
@@ -58,14 +69,8 @@ fn a_cookie_and_an_empty_one() -> Result<(), Fail> {
     let mut out = [FILLER; 40];
     let mut writer = Writer::over(&mut out);
     writer.open(9, false)?;
-    let mut alive = Alive {
-        validity: 0x0102,
-        wants_reply: false,
-        cookie: Some(&[]),
-    };
-    writer.add_alive(0, alive)?;
-    alive.cookie = Some(&[0xC0]);
-    writer.add_alive(0, alive)?;
+    writer.add_alive(0, with_cookie(&[]))?;
+    writer.add_alive(0, with_cookie(&[0xC0]))?;
     check_eq(writer.close()?, 24)?;
     check(begins(
         &out,
