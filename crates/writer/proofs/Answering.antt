@@ -1,30 +1,29 @@
 -- What a call answers, by what was found against it. Assumes nothing.
-use mathlib.Core.Path.{_≡_, refl, sym, ap, subst, _∙_}
-use mathlib.Core.Bool.{Bool, true, false, cond, not, _&&_, _||_}
+use mathlib.Core.Path.{_≡_, refl, sym, ap, _∙_}
+use mathlib.Core.Bool.{Bool, true, false, not, _&&_, _||_}
 use mathlib.Core.List.{List, [], _∷_, _++_, map}
-use mathlib.Core.Logic.{_⊎_, inl, inr}
-use Prim.Native.Nat.{ℕ, zero, suc, _+_, _-_, _*_, _%_, _≤_, _<_, min}
+use Prim.Native.Nat.{ℕ, zero, suc, _+_, _-_, _%_, _≤_, _<_, min}
 use native.Mathlib.Omega.{arith}
 use lib.Dec.{ltb, leb, eqb}
 use lib.ListN.{length, take, drop, set}
 use Rattle.std.proofs.shelf.Lists.{length-map, length-set, drop-set-lt}
-use Rattle.std.proofs.shelf.Tests.{leb-true, leb-false, le-leb, lt-leb, lt-ltb, and-parts, and-from}
+use Rattle.std.proofs.shelf.Tests.{leb-true, leb-false, lt-leb, lt-ltb, and-parts}
 use Rattle.std.specs.Joined.{joined}
 use Rattle.std.specs.declared.option.Option.{Option}
 use Rattle.std.specs.declared.option.Option.the-variants.{Some, None}
 use Rattle.std.specs.declared.result.Result.the-variants.{Ok, Err}
 use Rattle.datagram.specs.declared.structure.nack.Entry.{Entry}
 use Rattle.datagram.specs.Layout.{odd, octet, payloadOctets, countedOctets}
-use Rattle.datagram.specs.Structures.{Content, nack, typeOf}
+use Rattle.datagram.specs.Structures.{nack, typeOf}
 use Rattle.datagram.specs.Views.{entrySays}
 use Rattle.writer.specs.declared.marks.Marks.{Marks}
 use Rattle.writer.specs.declared.refusal.Found.the-variants.{NoRoom, TypeNotWritten, OutsideField}
 use Rattle.writer.specs.declared.refusal.Refusal.{Refusal}
 use Rattle.writer.specs.declared.writer.Writer.{Writer}
-use Rattle.writer.specs.Drafts.{Draft, draftOf, draftSays, firstOf, unless, isOpen, fits, againstPayload, againstClosing, deservingType, reservedClear, item, addOf, closable, closedMarks, closeOf, after, Does, done, size}
+use Rattle.writer.specs.Drafts.{draftOf, draftSays, firstOf, isOpen, fits, againstPayload, againstClosing, deservingType, reservedClear, item, addOf, closable, closedMarks, closeOf, Does, done, size}
 use Rattle.writer.specs.Pieces.{Measures, Unopposed, Grows, saidOctets, saidWithin}
 use Rattle.writer.specs.Refusals.{refusedAt}
-use Rattle.writer.specs.Values.{Item, supportedType, dataOf, octetsOfEntry, every, isField16, entryWithin, contentWithin, within}
+use Rattle.writer.specs.Values.{Item, supportedType, dataOf, octetsOfEntry, every, entryWithin, contentWithin, within}
 
 -- past every question
 pub clear-of : (b : Bool) (f : Refusal) (o : Option Refusal) → firstOf b f o ≡ None → (b ≡ true) × (o ≡ None)
@@ -135,7 +134,7 @@ take-set-both (suc n) (x ∷ l) zero v = refl
 take-set-both (suc n) (x ∷ l) (suc i) v = ap (λ k. x ∷ k) (take-set-both n l i v)
 
 -- there is a header where a datagram is closed
-pub closing-headed : (m : Marks) (room : ℕ) → againstClosing m room ≡ None → 5 ≤ m .mark
+closing-headed : (m : Marks) (room : ℕ) → againstClosing m room ≡ None → 5 ≤ m .mark
 closing-headed m room e =
     let a = clear-of (closable m room) _ _ e in
     let b = and-parts (isOpen m room) _ (a .0) in

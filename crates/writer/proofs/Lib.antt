@@ -4,3 +4,4 @@ pub mod Elements
 pub mod Puts
 pub mod Answering
 pub mod Runs
+pub mod Octets

@@ -1,6 +1,6 @@
 -- Octets put at the mark, one piece behind the other. Assumes nothing.
 use mathlib.Core.Path.{_≡_, refl, sym, ap, subst, _∙_}
-use mathlib.Core.Bool.{Bool, true}
+use mathlib.Core.Bool.{Bool}
 use mathlib.Core.List.{List, [], _∷_, _++_}
 use Prim.Native.Nat.{ℕ, zero, suc, _+_, _*_, _≤_, _<_}
 use native.Mathlib.Omega.{arith}
@@ -9,7 +9,7 @@ use Rattle.std.specs.Joined.{joined}
 use Rattle.std.proofs.shelf.Lists.{length-append, append-assoc, append-nil, drop-drop, take-more, take-all, joined-more}
 use Rattle.datagram.specs.Layout.{octets16, payloadOctets}
 use Rattle.writer.specs.declared.marks.Marks.{Marks}
-use Rattle.writer.specs.Drafts.{Draft, draftOf, deservingType, movedBy, counted, grown}
+use Rattle.writer.specs.Drafts.{draftOf, deservingType, movedBy, counted, grown}
 use Rattle.writer.specs.Pieces.{Put, Grows}
 use Rattle.writer.proofs.Elements.{joined-goes-on}
 

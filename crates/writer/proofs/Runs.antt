@@ -6,7 +6,6 @@ use Prim.Native.Nat.{ℕ, _+_, _-_, _*_, _≤_, _<_, min}
 use native.Mathlib.Omega.{arith}
 use lib.Dec.{ltb, leb, eqb}
 use lib.ListN.{length, take, drop, set}
-use Rattle.std.specs.Joined.{joined}
 use Rattle.std.proofs.shelf.Lists.{append-assoc, append-nil, length-append, length-push, joined-more, length-map, drop-drop, take-append-drop}
 use Rattle.std.proofs.shelf.Tests.{leb-true, le-leb, ltb-true, lt-ltb, eqb-true, and-parts, and-from}
 use Rattle.std.specs.declared.option.Option.{Option}
@@ -20,17 +19,17 @@ use Rattle.datagram.specs.Payloads.{deserving}
 use Rattle.datagram.specs.Results.{mapOk, ask}
 use Rattle.datagram.specs.Structures.{Content, callMessage, iAmAlive, ack, nack, nonStandard, unsupported, typeOf, meetEnd, aliveOf, ackOf, nackOf, nonStandardOf, contentOf}
 use Rattle.datagram.proofs.Accepted.{type-kept}
-use Rattle.datagram.proofs.Passing.{clash, passed, mapped-back}
+use Rattle.datagram.proofs.Passing.{clash, mapped-back}
 use Rattle.writer.specs.declared.refusal.Found.the-variants.{NotClosable}
 use Rattle.writer.specs.declared.refusal.Refusal.{Refusal}
 use Rattle.writer.specs.declared.writer.Writer.{Writer}
 use Rattle.writer.specs.Bodies.{Readable, AllOf}
-use Rattle.writer.specs.Drafts.{Draft, draftSays, fresh, firstOf, unless, withHeader, withCount, againstOpening, againstPayload, againstClosing, isOpen, fits, closable, deservingType, readsAnd, reservedClear, wellFormed, grown, Addition, item, typed, openOf, payloadOf, addOf, closeOf, after, Beyond, Does, done, size}
+use Rattle.writer.specs.Drafts.{Draft, draftSays, fresh, firstOf, unless, withHeader, withCount, againstOpening, againstPayload, againstClosing, isOpen, fits, closable, deservingType, readsAnd, reservedClear, wellFormed, grown, Addition, item, typed, openOf, payloadOf, addOf, closeOf, after, Does, done, size}
 use Rattle.writer.specs.Refusals.{refusedAt}
-use Rattle.writer.specs.Runs.{contentIn, partAdded, addAll, ifAccepted, accepted, Holds, Closed, What-is-closed-reads, isWritten, Writes, What-fits-is-written, ReadsAs, Run, Written}
-use Rattle.writer.specs.Values.{Item, Value, Part, partOf, partOctets, bodyOctets, datagramOctets, datagram, placedAt, placedFrom, every, isNumber, supportedType, within, written, InRange, dataOf}
+use Rattle.writer.specs.Runs.{contentIn, partAdded, addAll, ifAccepted, accepted, Holds, Closed, What-is-closed-reads, isWritten, What-fits-is-written, ReadsAs, Run, Written}
+use Rattle.writer.specs.Values.{Item, Part, partOf, partOctets, bodyOctets, datagramOctets, datagram, placedFrom, every, within, written, dataOf}
 use Rattle.writer.proofs.Answering.{clear-of, passes}
-use Rattle.writer.proofs.Trips.{parts-read, part-long}
+use Rattle.writer.proofs.Trips.{parts-read}
 use Rattle.writer.proofs.Written.{item-readable}
 
 -- data that is read at one place is read so at any other

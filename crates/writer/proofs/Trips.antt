@@ -2,14 +2,14 @@
 use mathlib.Core.Path.{_≡_, refl, sym, ap, subst, _∙_}
 use mathlib.Core.Bool.{Bool, true, false, not, _||_}
 use mathlib.Core.List.{List, [], _∷_, _++_, map}
-use Prim.Native.Nat.{ℕ, zero, suc, _+_, _-_, _*_, _/_, _%_, _≤_, _<_}
+use Prim.Native.Nat.{ℕ, zero, suc, _+_, _-_, _≤_, _<_}
 use native.Mathlib.Omega.{arith}
-use lib.Dec.{leb, eqb}
-use lib.ListN.{length, take, drop}
+use lib.Dec.{leb}
+use lib.ListN.{length, drop}
 use Rattle.std.proofs.shelf.Lists.{length-append, length-drop, length-map, length-take-le, drop-drop, drop-at}
 use Rattle.std.proofs.shelf.Tests.{le-leb, leb-true}
 use Rattle.std.specs.declared.result.Result.{Result}
-use Rattle.std.specs.declared.result.Result.the-variants.{Ok, Err}
+use Rattle.std.specs.declared.result.Result.the-variants.{Ok}
 use Rattle.datagram.specs.declared.fault.Fault.{Fault}
 use Rattle.datagram.specs.declared.header.Header.{Header}
 use Rattle.datagram.specs.Datagrams.{headerOf, payloadsFrom, someDeserves, datagramOf, read}
@@ -18,8 +18,8 @@ use Rattle.datagram.specs.Payloads.{Payload, past, payloadAt}
 use Rattle.datagram.specs.Results.{mapOk, andThen, ask}
 use Rattle.datagram.specs.Structures.{contentOf}
 use Rattle.datagram.proofs.Passing.{passed, bound, mapped-back}
-use Rattle.writer.specs.Bodies.{bodyFrom, bodyPayloads, howMany, headed, Header-and-body-read, Body-is-not-empty, Readable, AllOf, Body-reads-back, ReadsBack, Written-reads-back, Reply-reads-back, Call-for-life-reads-back, Round-trip, underNoCall, replied, reply, calling}
-use Rattle.writer.specs.Values.{Item, Value, Part, partOf, partOctets, bodyOctets, datagramOctets, written, datagram, placedAt, placedFrom, placed, itemOf, valueOf, InRange}
+use Rattle.writer.specs.Bodies.{bodyFrom, bodyPayloads, howMany, headed, Header-and-body-read, Body-is-not-empty, Readable, AllOf, Body-reads-back, Written-reads-back, Reply-reads-back, Call-for-life-reads-back, Round-trip, underNoCall, replied, reply, calling}
+use Rattle.writer.specs.Values.{Item, Value, Part, partOf, partOctets, bodyOctets, datagramOctets, written, datagram, placedFrom, placed, itemOf, valueOf, InRange}
 use Rattle.writer.proofs.Written.{back24, part-back, items-readable, contents-readable}
 
 ok-same : {X Y : Type 0} {x y : X} → _≡_ {A = Result X Y} (Ok x) (Ok y) → x ≡ y
@@ -97,7 +97,7 @@ header-and-body n a b ps long short e deserved =
     let payloads = payloads-of-body (length b) (headerOctets n a c ++ b) b 5 ps refl (omega arith) e in
     ap (λ r. read (headerOctets n a (howMany r - 1) ++ b)) e ∙ read-payloads n a c b ps short (omega arith) payloads deserved
 
-pub part-long : (p : Part) → length (partOctets p) ≡ 5 + length (p .octets)
+part-long : (p : Part) → length (partOctets p) ≡ 5 + length (p .octets)
 part-long p = omega arith
 
 body-from : (n : ℕ) (ps : List Part) (at : ℕ) → AllOf Readable ps → length (bodyOctets ps) ≤ n → bodyFrom n (bodyOctets ps) at ≡ Ok (placedFrom at ps)

@@ -1,18 +1,18 @@
 -- What was written is read back, structure by structure. Assumes nothing.
-use mathlib.Core.Path.{_≡_, refl, sym, ap, _∙_}
-use mathlib.Core.Bool.{Bool, true, false, not, _&&_, _||_}
+use mathlib.Core.Path.{_≡_, refl, ap, _∙_}
+use mathlib.Core.Bool.{Bool, true, false, not, _||_}
 use mathlib.Core.List.{List, [], _∷_, _++_, map}
-use Prim.Native.Nat.{ℕ, zero, suc, _+_, _-_, _*_, _/_, _%_, _≤_, _<_}
+use Prim.Native.Nat.{ℕ, _+_, _*_, _/_, _%_}
 use native.Mathlib.Omega.{arith}
 use lib.Dec.{ltb, eqb, leb}
-use lib.ListN.{length, take, drop}
+use lib.ListN.{length, drop}
 use Rattle.std.specs.Joined.{joined}
 use Rattle.std.proofs.shelf.Lists.{length-append, take-at, drop-at}
-use Rattle.std.proofs.shelf.Tests.{eq-eqb, le-leb, ltb-true, and-parts}
+use Rattle.std.proofs.shelf.Tests.{eq-eqb, le-leb, and-parts}
 use Rattle.std.specs.declared.option.Option.{Option}
 use Rattle.std.specs.declared.option.Option.the-variants.{Some, None}
 use Rattle.std.specs.declared.result.Result.the-variants.{Ok}
-use Rattle.datagram.specs.Layout.{octets16, octets24, flag, odd, aliveOctets, nonStandardOctets, payloadOctets}
+use Rattle.datagram.specs.Layout.{octets16, octets24, flag, odd, payloadOctets}
 use Rattle.datagram.specs.Payloads.{payloadAt}
 use Rattle.datagram.specs.Results.{mapOk}
 use Rattle.datagram.specs.Structures.{Alive, NonStandard, Entry, Content, callMessage, iAmAlive, ack, nack, nonStandard, unsupported, typeOf, numbers, entries, meetEnd, entryOf, cookieOf, aliveOf, ackOf, nackOf, nonStandardOf, contentOf}
@@ -119,7 +119,7 @@ content-back (nack es) at h = rw (nack-back es at) refl
 content-back (nonStandard s) at h = rw (non-standard-back s at) refl
 content-back (unsupported t x) at h = unsupported-back t x at (and-parts (ltb t 128) (not (supportedType t)) h .1)
 
-pub content-in : (i : Item) → within i ≡ true → contentWithin (i .content) ≡ true
+content-in : (i : Item) → within i ≡ true → contentWithin (i .content) ≡ true
 content-in i h = and-parts (isField16 (length (dataOf (i .content)))) (contentWithin (i .content)) (and-parts (isField16 (i .crv)) _ h .1) .1
 
 pub item-readable : (i : Item) → within i ≡ true → Readable (partOf i)

@@ -5,7 +5,7 @@ use mathlib.Core.List.{List, [], _∷_, _++_, map}
 use Prim.Native.Nat.{ℕ, zero, suc, _+_, _-_, _<_, _≤_}
 use lib.ListN.{length, drop}
 use Rattle.std.specs.declared.option.Option.{Option}
-use Rattle.std.specs.declared.option.Option.the-variants.{Some, None}
+use Rattle.std.specs.declared.option.Option.the-variants.{None}
 use Rattle.std.specs.declared.result.Result.{Result}
 use Rattle.std.specs.declared.result.Result.the-variants.{Ok, Err}
 use Rattle.datagram.specs.declared.fault.Fault.{Fault}
@@ -14,7 +14,7 @@ use Rattle.datagram.specs.Layout.{headerOctets}
 use Rattle.datagram.specs.Payloads.{Payload, past, payloadAt}
 use Rattle.datagram.specs.Results.{mapOk, andThen}
 use Rattle.datagram.specs.Structures.{Content, iAmAlive, ack, nack, typeOf, contentOf}
-use Rattle.writer.specs.Values.{Item, Value, Part, partOf, bodyOctets, written, datagram, placedFrom, placed, valueOf, every, contentWithin, InRange}
+use Rattle.writer.specs.Values.{Item, Value, Part, bodyOctets, written, datagram, placedFrom, placed, valueOf, every, contentWithin, InRange}
 
 -- payloads from an offset on until nothing is left, at most so many
 abbrev pub bodyFrom : ℕ → List ℕ → ℕ → Result (List Payload) Fault

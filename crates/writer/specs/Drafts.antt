@@ -1,7 +1,7 @@
 -- A datagram that is being written: what each call makes of it, or the question that the call fails. Assumes nothing.
 use mathlib.Core.Path.{_≡_}
 use mathlib.Core.Bool.{Bool, true, false, cond, not, _&&_, _||_}
-use mathlib.Core.List.{List, [], _∷_, _++_}
+use mathlib.Core.List.{List, _++_}
 use Prim.Native.Nat.{ℕ, _+_, _-_, min}
 use lib.Dec.{ltb, leb, eqb}
 use lib.ListN.{length, take, drop, set}
@@ -14,7 +14,6 @@ use Rattle.datagram.specs.Layout.{octet, odd, headerOctets, payloadOctets}
 use Rattle.datagram.specs.Results.{mapOk}
 use Rattle.datagram.specs.Structures.{Content, typeOf, contentOf}
 use Rattle.writer.specs.declared.marks.Marks.{Marks}
-use Rattle.writer.specs.declared.refusal.Found.{Found}
 use Rattle.writer.specs.declared.refusal.Found.the-variants.{NoRoom, TypeNotWritten, OutsideField, NotClosable}
 use Rattle.writer.specs.declared.refusal.Refusal.{Refusal}
 use Rattle.writer.specs.declared.writer.Writer.{Writer}

@@ -7,9 +7,8 @@ ghost use denote.Ref.{name, now};
 ghost use Rattle.std.specs.Options.{mapped};
 ghost use Rattle.datagram.specs.Structures.{callMessage, iAmAlive, ack, nack, nonStandard};
 ghost use Rattle.datagram.specs.Views.{aliveSays, entrySays, nonStandardSays};
-ghost use Rattle.writer.specs.Bodies.{Round-trip};
 ghost use Rattle.writer.specs.Drafts.{fresh, draftSays, againstOpening, againstPayload, againstClosing, openOf, item, typed, addOf, closeOf, Does, done, size};
-ghost use Rattle.writer.specs.Runs.{ReadsAs, What-is-closed-reads, What-fits-is-written};
+ghost use Rattle.writer.specs.Runs.{ReadsAs, What-is-closed-reads};
 ghost use Rattle.writer.specs.Values.{cookieOctets, plainly};
 use crate::kind::ACK;
 use crate::kind::CALL_MESSAGE;
@@ -192,8 +191,7 @@ impl<'b> Writer<'b> {
         ensures same { λ _. ⌜ name (now (self .exit) .buffer) ≡ name (now (self .entry) .buffer) ⌝ }
         ensures does { λ r. ⌜ Does (now (self .entry)) (closeOf (draftSays (now (self .entry)))) size r (now (self .exit)) ⌝ }
         ensures reads { λ r. ⌜ ReadsAs (now (self .entry)) r (now (self .exit)) ⌝ }
-        ensures law { λ _. ⌜ What-is-closed-reads ⌝ ∗ ⌜ What-fits-is-written ⌝ }
-        ensures backwards { λ _. ⌜ Round-trip ⌝ }
+        ensures law { λ _. ⌜ What-is-closed-reads ⌝ }
     {
         if let Some(refusal) = self.against_closing() {
             return Err(refusal);
