@@ -1,0 +1,36 @@
+-- The examples, by computing them.
+use mathlib.Core.Path.{refl}
+use Rattle.arrivals.specs.Meaning.{judged, judgedAt, judgedNumber, newBook}
+use Rattle.endpoint.specs.Arrives.{arrive}
+use Rattle.endpoint.specs.Enrols.{enrol}
+use Rattle.endpoint.specs.Sends.{send}
+use Rattle.endpoint.specs.Ticks.{tick}
+use Rattle.endpoint.proofs.example.last_number_sent.Needs as need
+
+pub returns : need.returns
+unfolding judged judgedAt judgedNumber newBook enrol send tick arrive
+returns c = record {
+  octets = refl;
+  examples = record {
+    sends = refl;
+    answers = refl;
+    wraps = refl;
+    one-at-a-time = refl;
+    before-the-first = refl;
+    first = refl;
+    first-octets = refl;
+    second = refl;
+    second-octets = refl;
+    third = refl;
+    third-octets = refl;
+    before-the-end = refl;
+    gives-up = refl;
+    arrives = refl;
+    replies = refl;
+    settles = refl;
+    not-yet-silent = refl;
+    silent = refl;
+    longest-reply = refl;
+    too-long-reply = refl;
+  };
+}

@@ -1,0 +1,12 @@
+pub mod Refusals
+pub mod Ends
+pub mod Timing
+pub mod Steps
+pub mod Enrols
+pub mod Sends
+pub mod Ticks
+pub mod Replies
+pub mod Arrives
+pub mod Calls
+pub mod Laws
+pub mod Examples
