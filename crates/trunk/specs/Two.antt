@@ -31,6 +31,7 @@ pub record Setting : Type 0 where
   pub start : Side → ℕ
   pub depth : Side → ℕ
 
+-- what is asked of a setting
 pub record Sound (σ : Setting) : Type 0 where
   pub apart : samePeer (σ .peer left) (σ .peer right) ≡ false
   pub starts : (s : Side) → σ .start s < 16777216
@@ -171,6 +172,7 @@ module _ (σ : Setting) where
   run w [] = w
   run w (c ∷ cs) = run (turned w c) cs
 
+  -- both as they are opened, and no entry yet
   abbrev pub newly : World
   newly = record { ends = λ s. newEnd (σ .start s); log = [] }
 
