@@ -4,7 +4,7 @@ ghost use Rattle.arrivals_examples.specs.Edges.{HalfEdge, DepthEdge};
 // The last numbers that are still fresh to a place that has noted one number.
 #[derive(Clone, Copy)]
 pub struct Edges {
-    // ahead of 5, in a book of any depth
+    // ahead of 5, in both books
     pub ahead_of_5: u32,
     // behind 100, in a mask book
     pub mask_behind_100: u32,

@@ -1,4 +1,4 @@
-// One endpoint of H.323 Annex E signalling: what it knows, what it answers, and the definitions that its calls are held to.
+// One endpoint of H.323 Annex E signalling: what it knows, what it answers, and the definitions that its calls will be held to.
 mod answer;
 mod example;
 mod laws;
