@@ -13,11 +13,11 @@ use Rattle.datagram.specs.Results.{mapOk}
 use Rattle.datagram.specs.Structures.{callMessage}
 use Rattle.endpoint.specs.declared.answer.Outcome.the-variants.{Acknowledged}
 use Rattle.endpoint.specs.declared.answer.Sent.{Sent}
-use Rattle.endpoint.specs.declared.answer.Ticked.the-variants.{Resent, Unanswered, Silent, Idle}
+use Rattle.endpoint.specs.declared.answer.Ticked.the-variants.{Resent, Unanswered, Silent, KeptAlive, Idle}
 use Rattle.endpoint.specs.declared.peer.Peer.{Peer}
 use Rattle.endpoint.specs.declared.peer.Role.the-variants.{Master, Slave}
 use Rattle.endpoint.specs.declared.refusal.Refusal.{Refusal}
-use Rattle.endpoint.specs.declared.refusal.Refusal.the-variants.{StillOutstanding, ReplyTooLong}
+use Rattle.endpoint.specs.declared.refusal.Refusal.the-variants.{BodySize, StillOutstanding, ReplyTooLong}
 use Rattle.endpoint.specs.Arrives.{Arrival, arrive}
 use Rattle.endpoint.specs.Ends.{End, newEnd}
 use Rattle.endpoint.specs.Enrols.{enrol}
@@ -35,7 +35,11 @@ right = record { address = 10 ∷ 0 ∷ 0 ∷ 2 ∷ []; port = 1720 }
 abbrev pub body : List ℕ
 body = 0x02 ∷ 0x00 ∷ 0x01 ∷ 0x00 ∷ 0x02 ∷ 0xAB ∷ 0xCD ∷ []
 
--- its datagram under the number 16,777,215, an Ack wanted
+-- one of so many octets: 5 more in all
+abbrev pub bodyOf : ℕ → List ℕ
+bodyOf n = payloadOctets 1 1 (replicate n 7)
+
+-- the datagram of the first under the number 16,777,215, an Ack wanted
 abbrev pub message : List ℕ
 message = 0x01 ∷ 0xFF ∷ 0xFF ∷ 0xFF ∷ 0x00 ∷ body
 
@@ -76,6 +80,9 @@ pub record Examples : Type 0 where
   pub answers : send ready 0 0 true body 1024 .answer ≡ Ok again
   pub wraps : waiting .next ≡ 0
   pub one-at-a-time : send waiting 0 0 true body 1024 .answer ≡ Err StillOutstanding
+  -- a body of 507 octets is sent, and one of 508 is refused
+  pub longest-body : send ready 0 0 true (bodyOf 502) 1024 .answer ≡ Ok (record { number = 16777215; size = 512 })
+  pub too-long-body : send ready 0 0 true (bodyOf 503) 1024 .answer ≡ Err BodySize
   -- sent again and given up
   pub before-the-first : tick waiting 0 999 1024 .answer ≡ Ok Idle
   pub first : tick waiting 0 1000 1024 .answer ≡ Ok (Resent again)
@@ -103,6 +110,9 @@ pub record Examples : Type 0 where
   -- a neighbour that was heard 29,999 ago is not silent, and 30,000 ago it is
   pub not-yet-silent : tick ready 0 29999 1024 .answer ≡ Ok Idle
   pub silent : tick ready 0 30000 1024 .answer ≡ Ok Silent
+  -- a master lets the line rest for 5,999, and after 6,000 it keeps it alive
+  pub at-rest : tick listening 5 5999 1024 .answer ≡ Ok Idle
+  pub kept-alive : tick listening 5 6000 1024 .answer ≡ Ok (KeptAlive (record { number = 0; size = 14 }))
   -- 1,015 octets are replied to with 1,024, and 1,016 would need one more
   pub longest-reply : replied 1001 ≡ Ok (Some (record { number = 0; size = 1024 }))
   pub too-long-reply : replied 1002 ≡ Err ReplyTooLong

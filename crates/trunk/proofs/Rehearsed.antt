@@ -6,16 +6,23 @@ use mathlib.Core.Logic.{inl, inr}
 use Prim.Native.Nat.{_≤_, _<_}
 use lib.Dec.{lit<, lit≤}
 use Rattle.std.specs.declared.option.Option.the-variants.{Some, None}
+use Rattle.std.specs.declared.result.Result.the-variants.{Err}
+use Rattle.endpoint.specs.declared.refusal.Refusal.the-variants.{StillOutstanding}
 use Rattle.trunk.specs.Acts.{Side, left, right, sent-again, sends, ticks, arrives}
 use Rattle.trunk.specs.Law.{Law}
 use Rattle.trunk.specs.Refuted.{bodyWith, said, datagramWith}
-use Rattle.trunk.specs.Two.{Sound, newly, Proper, historyOf}
-use Rattle.trunk.specs.Rehearsal.{startOf, depthOf, setting, firstAck, secondAck, sixteen, expected, Sixteen-calls}
+use Rattle.trunk.specs.Two.{Sound, run, newly, Proper, historyOf}
+use Rattle.trunk.specs.Rehearsal.{startOf, depthOf, setting, firstAck, secondAck, sixteen, expected, Answers, Sixteen-calls}
 use Rattle.trunk.proofs.Theorem.{keep-the-law}
 
 comes-to : historyOf setting sixteen ≡ expected
 unfolding Rattle.endpoint.specs.Enrols.enrol Rattle.endpoint.specs.Sends.send Rattle.endpoint.specs.Ticks.tick Rattle.endpoint.specs.Arrives.arrive Rattle.arrivals.specs.Meaning.newBook Rattle.arrivals.specs.Meaning.judged Rattle.arrivals.specs.Meaning.judgedAt Rattle.arrivals.specs.Meaning.judgedNumber Rattle.arrivals.specs.Meaning.noted Rattle.arrivals.specs.Meaning.notedAt Rattle.arrivals.specs.Meaning.withFresh Rattle.arrivals.specs.Meaning.ahead Rattle.arrivals.specs.Meaning.near Rattle.arrivals.specs.Meaning.behind Rattle.arrivals.specs.Meaning.stepsUp
 comes-to = refl
+
+-- nine entries came later
+refused : Answers (run setting (newly setting) sixteen .log) 6 (Err StillOutstanding)
+unfolding Rattle.endpoint.specs.Enrols.enrol Rattle.endpoint.specs.Sends.send Rattle.endpoint.specs.Ticks.tick Rattle.endpoint.specs.Arrives.arrive Rattle.arrivals.specs.Meaning.newBook Rattle.arrivals.specs.Meaning.judged Rattle.arrivals.specs.Meaning.judgedAt Rattle.arrivals.specs.Meaning.judgedNumber Rattle.arrivals.specs.Meaning.noted Rattle.arrivals.specs.Meaning.notedAt Rattle.arrivals.specs.Meaning.withFresh Rattle.arrivals.specs.Meaning.ahead Rattle.arrivals.specs.Meaning.near Rattle.arrivals.specs.Meaning.behind Rattle.arrivals.specs.Meaning.stepsUp
+refused = inr (inr (inr (inr (inr (inr (inr (inr (inr (inl (refl, refl))))))))))
 
 set-up : Sound setting
 set-up = record { apart = refl; starts = starts; deep = deep; shallow = shallow }
@@ -69,5 +76,6 @@ sixteen-calls = record {
   set-up = set-up;
   proper = proper;
   comes-to = comes-to;
+  refused = refused;
   lawful = subst (Law 4 3000) comes-to (keep-the-law setting set-up sixteen proper);
 }

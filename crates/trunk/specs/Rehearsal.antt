@@ -2,15 +2,21 @@
 use mathlib.Core.Path.{_≡_}
 use mathlib.Core.Bool.{true, false}
 use mathlib.Core.List.{List, [], _∷_}
+use mathlib.Core.Logic.{_⊎_}
 use Prim.Native.Nat.{ℕ}
+use lib.ListN.{length}
 use Rattle.std.specs.declared.option.Option.the-variants.{Some, None}
+use Rattle.std.specs.declared.result.Result.{Result}
+use Rattle.std.specs.declared.result.Result.the-variants.{Err}
 use Rattle.endpoint.specs.declared.peer.Peer.{Peer}
 use Rattle.endpoint.specs.declared.peer.Role.the-variants.{Master, Slave}
+use Rattle.endpoint.specs.declared.refusal.Refusal.{Refusal}
+use Rattle.endpoint.specs.declared.refusal.Refusal.the-variants.{StillOutstanding}
 use Rattle.endpoint.specs.Calls as calls
 use Rattle.trunk.specs.Acts.{Octets, acknowledged, Side, left, right, sent-again, gave-up, kept-alive, let-be, aside, sends, ticks, arrives, History}
 use Rattle.trunk.specs.Law.{Law}
 use Rattle.trunk.specs.Refuted.{deed, bodyWith, said, datagramWith}
-use Rattle.trunk.specs.Two.{Setting, Sound, Turn, newly, Proper, historyOf}
+use Rattle.trunk.specs.Two.{Setting, Sound, Turn, Log, run, newly, Proper, historyOf}
 
 -- the left end is 10.0.0.1 and starts at 5, the right end is 10.0.0.2 and starts at the last number
 abbrev pub peerOf : Side → Peer
@@ -85,8 +91,14 @@ expected =
     ∷ deed left (aside false)
     ∷ []
 
+-- entry i of a log has the answer x
+abbrev pub Answers : Log → ℕ → Result calls.Answer Refusal → Type 0
+Answers [] i x = ⊥
+Answers (e ∷ l) i x = ((i ≡ length l) × (x ≡ e .answer)) ⊎ Answers l i x
+
 pub record Sixteen-calls (tries gap : ℕ) : Type 0 where
   pub set-up : Sound setting
   pub proper : Proper setting (newly setting) sixteen
   pub comes-to : historyOf setting sixteen ≡ expected
+  pub refused : Answers (run setting (newly setting) sixteen .log) 6 (Err StillOutstanding)
   pub lawful : Law tries gap expected

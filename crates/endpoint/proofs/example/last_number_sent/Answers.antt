@@ -16,6 +16,8 @@ returns c = record {
     answers = refl;
     wraps = refl;
     one-at-a-time = refl;
+    longest-body = refl;
+    too-long-body = refl;
     before-the-first = refl;
     first = refl;
     first-octets = refl;
@@ -30,6 +32,8 @@ returns c = record {
     settles = refl;
     not-yet-silent = refl;
     silent = refl;
+    at-rest = refl;
+    kept-alive = refl;
     longest-reply = refl;
     too-long-reply = refl;
   };
