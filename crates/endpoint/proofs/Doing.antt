@@ -26,7 +26,7 @@ use Rattle.endpoint.specs.Laws.{SoundMessage, SoundOutstanding}
 use Rattle.endpoint.specs.Replies.{isEmpty, replying, replyTo}
 use Rattle.endpoint.specs.Sends.{sendAsks, sendActs, awaiting}
 use Rattle.endpoint.specs.Ticks.{Move, resends, givesUp, marksSilent, keepsAlive, rests, moveAt, moveWith, watches, retries, fallsSilent, longAtRest, takesNumber, tickAsks, tickActs, resentAt, nowSilent, keptAliveAt}
-use Rattle.endpoint.specs.Timing.{numbersLeft, standingTimers}
+use Rattle.endpoint.specs.Timing.{standingTimers}
 use Rattle.endpoint.proofs.Asked.{AllYes, was-read}
 use Rattle.endpoint.proofs.Peers.{same-peer}
 use Rattle.endpoint.proofs.Moving.{limits, SoundSite, Moves}
@@ -39,8 +39,8 @@ none-is (Some x) h = absurd (false≢true h)
 new-peer : (e : End) (peer x : Peer) → isNone (placeOf e peer) ≡ true → samePeer peer x ≡ true → placeOf e x ≡ None
 new-peer e peer x free h = subst (λ y. placeOf e y ≡ None) (same-peer peer x h) (none-is (placeOf e peer) free)
 
-pub enrol-moves : (e : End) (p t : ℕ) (peer : Peer) (role : Role) → AllYes (enrolAsks e p t peer) → Moves e p t (enrolActs e p t peer role .after)
-enrol-moves e p t peer role (place, (early, (forth, (empty, (free, more))))) = record {
+pub enrol-moves : (below : ℕ → Bool) (e : End) (p t : ℕ) (peer : Peer) (role : Role) → AllYes (enrolAsks e p t peer) → Moves below e p t (enrolActs e p t peer role .after)
+enrol-moves below e p t peer role (place, (early, (forth, (empty, (free, more))))) = record {
   site = held (newcomer peer role t);
   places = refl;
   sound = λ _. tt;
@@ -66,8 +66,8 @@ awaits-peer : (n t : ℕ) (d : List ℕ) (s : Site) (x : Peer) → holdsPeer x (
 awaits-peer n t d vacant x h = h
 awaits-peer n t d (held m) x h = h
 
-sent-moves : (e : End) (p t : ℕ) (want : Bool) (d : List ℕ) → e .latest ≤ t → t ≤ limits .«last_time» → e .given < limits .given → 10 ≤ length d → length d ≤ 512 → Moves e p t (sendActs e p t want d .after)
-sent-moves e p t true d f i g low high = record {
+sent-moves : (below : ℕ → Bool) (e : End) (p t : ℕ) (want : Bool) (d : List ℕ) → e .latest ≤ t → t ≤ limits .«last_time» → below (e .given) ≡ true → 10 ≤ length d → length d ≤ 512 → Moves below e p t (sendActs e p t want d .after)
+sent-moves below e p t true d f i g low high = record {
   site = awaiting (e .next) t d (siteAt e p);
   places = refl;
   sound = λ _. awaits (e .next) t d (siteAt e p) low high;
@@ -78,7 +78,7 @@ sent-moves e p t true d f i g low high = record {
   in-time = i;
   numbering = inr (g, refl, refl);
 }
-sent-moves e p t false d f i g low high = record {
+sent-moves below e p t false d f i g low high = record {
   site = siteAt e p;
   places = sym (set-getD (e .places) p vacant);
   sound = λ s. s;
@@ -90,14 +90,14 @@ sent-moves e p t false d f i g low high = record {
   numbering = inr (g, refl, refl);
 }
 
-pub send-moves : (e : End) (p t : ℕ) (want : Bool) (b : List ℕ) (room : ℕ) → AllYes (sendAsks e p t want b room) → Moves e p t (sendActs e p t want (headed (e .next) want b) .after)
-send-moves e p t want b room (place, (early, (forth, (there, (fits, (sized, (readable, (plain, (free, (left, more)))))))))) =
+pub send-moves : (below : ℕ → Bool) (e : End) (p t : ℕ) (want : Bool) (b : List ℕ) (room : ℕ) → AllYes (sendAsks below e p t want b room) → Moves below e p t (sendActs e p t want (headed (e .next) want b) .after)
+send-moves below e p t want b room (place, (early, (forth, (there, (fits, (sized, (readable, (plain, (free, (left, more)))))))))) =
     let size = and-parts (leb 1 (length b)) (leb (length b) 507) sized in
     let one : 1 ≤ length b = leb-true 1 (length b) (size .0) in
     let most : length b ≤ 507 = leb-true (length b) 507 (size .1) in
     let r = was-read (bodyPayloads b) readable in
     let low : 5 ≤ length b = short-body b (r .0) one (r .1) in
-    sent-moves e p t want (headed (e .next) want b) (leb-true (e .latest) t forth) (leb-true t (limits .«last_time») early) (ltb-true (e .given) (limits .given) left) (omega arith) (omega arith)
+    sent-moves below e p t want (headed (e .next) want b) (leb-true (e .latest) t forth) (leb-true t (limits .«last_time») early) left (omega arith) (omega arith)
 
 -- tick
 again-sound : (t : ℕ) (m : Message) (s : Site) → SoundMessage limits m → m .transmissions < limits .timers .tries → SoundSite (resentAt t m s)
@@ -167,8 +167,8 @@ move-sendable t (held n) = go (n .outstanding) refl
     go None e = watch-sendable t (held n) n
     go (Some m) e = due m e (leb (m .due) t)
 
-module _ (e : End) (p t : ℕ) (forth : e .latest ≤ t) (early : t ≤ limits .«last_time») where
-  ticked-moves : (m : Move) → Sendable (siteAt e p) m → (takesNumber m ≡ true → e .given < limits .given) → Moves e p t (tickActs e p t m .after)
+module _ (below : ℕ → Bool) (e : End) (p t : ℕ) (forth : e .latest ≤ t) (early : t ≤ limits .«last_time») where
+  ticked-moves : (m : Move) → Sendable (siteAt e p) m → (takesNumber m ≡ true → below (e .given) ≡ true) → Moves below e p t (tickActs e p t m .after)
   ticked-moves (resends m) can left = record {
     site = resentAt t m (siteAt e p);
     places = refl;
@@ -230,10 +230,10 @@ left-if : (a b : Bool) → (not a || b) ≡ true → a ≡ true → b ≡ true
 left-if true b h q = h
 left-if false b h q = absurd (false≢true q)
 
-pub tick-moves : (e : End) (p t room : ℕ) → AllYes (tickAsks e p t room) → Moves e p t (tickActs e p t (moveAt t (siteAt e p)) .after)
-tick-moves e p t room (place, (early, (forth, (there, (fits, (left, more)))))) =
-    ticked-moves e p t (leb-true (e .latest) t forth) (leb-true t (limits .«last_time») early) (moveAt t (siteAt e p)) (move-sendable t (siteAt e p))
-    (λ takes. ltb-true (e .given) (limits .given) (left-if (takesNumber (moveAt t (siteAt e p))) (numbersLeft (e .given)) left takes))
+pub tick-moves : (below : ℕ → Bool) (e : End) (p t room : ℕ) → AllYes (tickAsks below e p t room) → Moves below e p t (tickActs e p t (moveAt t (siteAt e p)) .after)
+tick-moves below e p t room (place, (early, (forth, (there, (fits, (left, more)))))) =
+    ticked-moves below e p t (leb-true (e .latest) t forth) (leb-true t (limits .«last_time») early) (moveAt t (siteAt e p)) (move-sendable t (siteAt e p))
+    (left-if (takesNumber (moveAt t (siteAt e p))) (below (e .given)) left)
 
 -- arrive
 kept-unless : (s : Option Settled) (m : Option Message) → SoundOutstanding limits m → SoundOutstanding limits (keptUnless s m)
@@ -248,8 +248,8 @@ heard-peer : (t : ℕ) (o : Option Settled) (s : Site) (x : Peer) → holdsPeer 
 heard-peer t o vacant x h = h
 heard-peer t o (held n) x h = h
 
-module _ (depth : ℕ) (e : End) (p t : ℕ) (n : ℕ) (s : Option Settled) (forth : e .latest ≤ t) (early : t ≤ limits .«last_time») where
-  replied-moves : (cs : List Content) → (isEmpty cs ≡ false → e .given < limits .given) → Moves e p t (replying cs (hearing depth e p t n s))
+module _ (below : ℕ → Bool) (depth : ℕ) (e : End) (p t : ℕ) (n : ℕ) (s : Option Settled) (forth : e .latest ≤ t) (early : t ≤ limits .«last_time») where
+  replied-moves : (cs : List Content) → (isEmpty cs ≡ false → below (e .given) ≡ true) → Moves below e p t (replying cs (hearing depth e p t n s))
   replied-moves [] left = record {
     site = heardAt t s (siteAt e p);
     places = refl;
@@ -277,8 +277,8 @@ left-unless : (a b : Bool) → (a || b) ≡ true → a ≡ false → b ≡ true
 left-unless true b h q = absurd (true≢false q)
 left-unless false b h q = h
 
-pub arrive-moves : (depth : ℕ) (e : End) (t : ℕ) (sender : Peer) (d : List ℕ) (room : ℕ) (fresh : Bool) → AllYes (arriveAsks depth e t sender d room) → Moves e (senderPlace e sender) t (arriveActs depth e (senderPlace e sender) t fresh (saidBy d) .after)
-arrive-moves depth e t sender d room fresh (early, (forth, (known, (fits, (readable, (current, (short, (left, more)))))))) =
-    replied-moves depth e (senderPlace e sender) t (saidBy d .number) (settles fresh (outstandingAt (siteAt e (senderPlace e sender))) (saidBy d .payloads))
+pub arrive-moves : (below : ℕ → Bool) (depth : ℕ) (e : End) (t : ℕ) (sender : Peer) (d : List ℕ) (room : ℕ) (fresh : Bool) → AllYes (arriveAsks below depth e t sender d room) → Moves below e (senderPlace e sender) t (arriveActs depth e (senderPlace e sender) t fresh (saidBy d) .after)
+arrive-moves below depth e t sender d room fresh (early, (forth, (known, (fits, (readable, (current, (short, (left, more)))))))) =
+    replied-moves below depth e (senderPlace e sender) t (saidBy d .number) (settles fresh (outstandingAt (siteAt e (senderPlace e sender))) (saidBy d .payloads))
     (leb-true (e .latest) t forth) (leb-true t (limits .«last_time») early) (replyTo (saidBy d))
-    (λ due. ltb-true (e .given) (limits .given) (left-unless (isEmpty (replyTo (saidBy d))) (numbersLeft (e .given)) left due))
+    (left-unless (isEmpty (replyTo (saidBy d))) (below (e .given)) left)

@@ -9,8 +9,8 @@ use Rattle.endpoint.specs.Calls.{Call, enrols, sends, ticks}
 use Rattle.endpoint.specs.Enrols.{enrol}
 use Rattle.endpoint.specs.Examples.{right}
 use Rattle.endpoint.specs.Laws.{Comes-about, Limits-met}
-use Rattle.endpoint.specs.Sends.{send}
-use Rattle.endpoint.specs.Ticks.{tick}
+use Rattle.endpoint.specs.Sends.{sendWithin}
+use Rattle.endpoint.specs.Ticks.{tickWithin}
 use Rattle.endpoint.proofs.Moving.{limits}
 
 abbrev sending : List ℕ → List Call → List Call
@@ -24,15 +24,15 @@ abbrev most : List ℕ
 most = 0x02 ∷ 0x00 ∷ 0x00 ∷ 0x01 ∷ 0xF6 ∷ replicate 502 0
 
 reaches-tries : Comes-about (λ m. m .transmissions) 4
-unfolding enrol send tick
+unfolding enrol sendWithin tickWithin
 reaches-tries = (sending least (ticks 0 1000 1024 ∷ ticks 0 4000 1024 ∷ ticks 0 7000 1024 ∷ []), refl)
 
 reaches-smallest : Comes-about (λ m. length (m .octets)) 10
-unfolding enrol send
+unfolding enrol sendWithin
 reaches-smallest = (sending least [], refl)
 
 reaches-largest : Comes-about (λ m. length (m .octets)) 512
-unfolding enrol send
+unfolding enrol sendWithin
 reaches-largest = (sending most [], refl)
 
 pub limits-met : Limits-met limits

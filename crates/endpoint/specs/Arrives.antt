@@ -71,8 +71,8 @@ senderPlace e sender = orNowhere (placeOf e sender)
 abbrev pub saidBy : List ℕ → Datagram
 saidBy d = orBlank (read d)
 
-abbrev pub arriveAsks : ℕ → End → (time : ℕ) → (sender : Peer) → (d : List ℕ) → (room : ℕ) → List Question
-arriveAsks depth e time sender d room =
+abbrev pub arriveAsks : (below : ℕ → Bool) → ℕ → End → (time : ℕ) → (sender : Peer) → (d : List ℕ) → (room : ℕ) → List Question
+arriveAsks below depth e time sender d room =
     ask TimeTooHigh (isTime time)
     ∷ ask ClockRanBack (leb (e .latest) time)
     ∷ ask SenderUnknown (not (isNone (placeOf e sender)))
@@ -80,7 +80,7 @@ arriveAsks depth e time sender d room =
     ∷ askRead (read d)
     ∷ ask TooOld (isCurrent (judged depth (e .book) (senderPlace e sender) (saidBy d .number)))
     ∷ ask ReplyTooLong (leb (length (replyOctets (e .next) (replyTo (saidBy d)))) 1024)
-    ∷ ask NumbersSpent (isEmpty (replyTo (saidBy d)) || numbersLeft (e .given))
+    ∷ ask NumbersSpent (isEmpty (replyTo (saidBy d)) || below (e .given))
     ∷ []
 
 abbrev pub hearing : ℕ → End → (place time number : ℕ) → Option Settled → End
@@ -102,7 +102,10 @@ arriveActs depth e place time fresh g =
     }
 
 -- at a book of this depth
-unfoldable pub arrive : ℕ → End → (time : ℕ) → (sender : Peer) → (d : List ℕ) → (room : ℕ) → Step Arrival
-arrive depth e time sender d room =
-    unless (firstNo (arriveAsks depth e time sender d room)) e
+unfoldable pub arriveWithin : (below : ℕ → Bool) → ℕ → End → (time : ℕ) → (sender : Peer) → (d : List ℕ) → (room : ℕ) → Step Arrival
+arriveWithin below depth e time sender d room =
+    unless (firstNo (arriveAsks below depth e time sender d room)) e
     (arriveActs depth e (senderPlace e sender) time (isFresh (judged depth (e .book) (senderPlace e sender) (saidBy d .number))) (saidBy d))
+
+abbrev pub arrive : ℕ → End → (time : ℕ) → (sender : Peer) → (d : List ℕ) → (room : ℕ) → Step Arrival
+arrive = arriveWithin numbersLeft

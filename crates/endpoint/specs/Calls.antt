@@ -7,12 +7,13 @@ use Rattle.endpoint.specs.declared.answer.Sent.{Sent}
 use Rattle.endpoint.specs.declared.answer.Ticked.{Ticked}
 use Rattle.endpoint.specs.declared.peer.Peer.{Peer}
 use Rattle.endpoint.specs.declared.peer.Role.{Role}
-use Rattle.endpoint.specs.Arrives.{Arrival, arrive, senderPlace}
+use Rattle.endpoint.specs.Arrives.{Arrival, arriveWithin, senderPlace}
 use Rattle.endpoint.specs.Ends.{End}
 use Rattle.endpoint.specs.Enrols.{enrol}
-use Rattle.endpoint.specs.Sends.{send}
+use Rattle.endpoint.specs.Sends.{sendWithin}
 use Rattle.endpoint.specs.Steps.{Step}
-use Rattle.endpoint.specs.Ticks.{tick}
+use Rattle.endpoint.specs.Ticks.{tickWithin}
+use Rattle.endpoint.specs.Timing.{numbersLeft}
 
 pub data Call : Type 0 where
   enrols : (place time : ℕ) (peer : Peer) (role : Role) → Call
@@ -29,11 +30,15 @@ pub data Answer : Type 0 where
 abbrev pub answering : {A : Type 0} → (A → Answer) → Step A → Step Answer
 answering f s = record { answer = mapOk f (s .answer); after = s .after; wrote = s .wrote }
 
+-- under any question 12, and under the standing one
+abbrev pub calledWithin : (below : ℕ → Bool) → ℕ → End → Call → Step Answer
+calledWithin below depth e (enrols place time peer role) = answering (λ u. enrolled) (enrol e place time peer role)
+calledWithin below depth e (sends place time wantsAck body room) = answering sent (sendWithin below e place time wantsAck body room)
+calledWithin below depth e (ticks place time room) = answering ticked (tickWithin below e place time room)
+calledWithin below depth e (arrives time sender d room) = answering arrived (arriveWithin below depth e time sender d room)
+
 abbrev pub called : ℕ → End → Call → Step Answer
-called depth e (enrols place time peer role) = answering (λ u. enrolled) (enrol e place time peer role)
-called depth e (sends place time wantsAck body room) = answering sent (send e place time wantsAck body room)
-called depth e (ticks place time room) = answering ticked (tick e place time room)
-called depth e (arrives time sender d room) = answering arrived (arrive depth e time sender d room)
+called = calledWithin numbersLeft
 
 abbrev pub after : ℕ → End → List Call → End
 after depth e [] = e

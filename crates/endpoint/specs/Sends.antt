@@ -43,8 +43,8 @@ onlyMessages b (Err f) = false
 abbrev pub isBodySize : ℕ → Bool
 isBodySize n = leb 1 n && leb n 507
 
-abbrev pub sendAsks : End → (place time : ℕ) → (wantsAck : Bool) → (body : List ℕ) → (room : ℕ) → List Question
-sendAsks e place time wantsAck body room =
+abbrev pub sendAsks : (below : ℕ → Bool) → End → (place time : ℕ) → (wantsAck : Bool) → (body : List ℕ) → (room : ℕ) → List Question
+sendAsks below e place time wantsAck body room =
     ask NoSuchPlace (isPlace place)
     ∷ ask TimeTooHigh (isTime time)
     ∷ ask ClockRanBack (leb (e .latest) time)
@@ -54,7 +54,7 @@ sendAsks e place time wantsAck body room =
     ∷ askRead (bodyPayloads body)
     ∷ ask NotOnlyMessages (onlyMessages body (bodyPayloads body))
     ∷ ask StillOutstanding (not wantsAck || isNone (outstandingAt (siteAt e place)))
-    ∷ ask NumbersSpent (numbersLeft (e .given))
+    ∷ ask NumbersSpent (below (e .given))
     ∷ []
 
 -- a message that was sent once
@@ -76,6 +76,9 @@ sendActs e place time wantsAck d = record {
   wrote = d;
 }
 
-unfoldable pub send : End → (place time : ℕ) → (wantsAck : Bool) → (body : List ℕ) → (room : ℕ) → Step Sent
-send e place time wantsAck body room =
-    unless (firstNo (sendAsks e place time wantsAck body room)) e (sendActs e place time wantsAck (headed (e .next) wantsAck body))
+unfoldable pub sendWithin : (below : ℕ → Bool) → End → (place time : ℕ) → (wantsAck : Bool) → (body : List ℕ) → (room : ℕ) → Step Sent
+sendWithin below e place time wantsAck body room =
+    unless (firstNo (sendAsks below e place time wantsAck body room)) e (sendActs e place time wantsAck (headed (e .next) wantsAck body))
+
+abbrev pub send : End → (place time : ℕ) → (wantsAck : Bool) → (body : List ℕ) → (room : ℕ) → Step Sent
+send = sendWithin numbersLeft

@@ -60,14 +60,14 @@ takesNumber marksSilent = false
 takesNumber keepsAlive = true
 takesNumber rests = false
 
-abbrev pub tickAsks : End → (place time room : ℕ) → List Question
-tickAsks e place time room =
+abbrev pub tickAsks : (below : ℕ → Bool) → End → (place time room : ℕ) → List Question
+tickAsks below e place time room =
     ask NoSuchPlace (isPlace place)
     ∷ ask TimeTooHigh (isTime time)
     ∷ ask ClockRanBack (leb (e .latest) time)
     ∷ ask PlaceVacant (isHeld (siteAt e place))
     ∷ ask BufferTooShort (hasRoom room)
-    ∷ ask NumbersSpent (not (takesNumber (moveAt time (siteAt e place))) || numbersLeft (e .given))
+    ∷ ask NumbersSpent (not (takesNumber (moveAt time (siteAt e place))) || below (e .given))
     ∷ []
 
 -- a message sent once more
@@ -111,5 +111,8 @@ tickActs e place time keepsAlive = record {
 }
 tickActs e place time rests = record { answer = Ok Idle; after = atTime e time (e .places); wrote = [] }
 
-unfoldable pub tick : End → (place time room : ℕ) → Step Ticked
-tick e place time room = unless (firstNo (tickAsks e place time room)) e (tickActs e place time (moveAt time (siteAt e place)))
+unfoldable pub tickWithin : (below : ℕ → Bool) → End → (place time room : ℕ) → Step Ticked
+tickWithin below e place time room = unless (firstNo (tickAsks below e place time room)) e (tickActs e place time (moveAt time (siteAt e place)))
+
+abbrev pub tick : End → (place time room : ℕ) → Step Ticked
+tick = tickWithin numbersLeft

@@ -15,6 +15,6 @@ timersOf n = standingTimers
 abbrev pub isTime : ℕ → Bool
 isTime time = leb time 281474976710655
 
--- whether one more number may be given after so many
+-- question 12, of how many numbers were given: whether one more may be. The calls are defined for any such question, `below`; this one stands
 abbrev pub numbersLeft : ℕ → Bool
 numbersLeft given = ltb given 8388608

@@ -69,20 +69,20 @@ at-held peer vacant e = absurd (false≢true e)
 at-held peer (held n) e = (n, refl, same-peer (n .peer) peer e)
 
 -- a call at a place that holds the same peer before and after
-pub record Turned (e : End) (p t : ℕ) (f : End) : Type 0 where
-  pub moves : Moves e p t f
+pub record Turned (below : ℕ → Bool) (e : End) (p t : ℕ) (f : End) : Type 0 where
+  pub moves : Moves below e p t f
   pub was : Neighbour
   pub held-was : siteAt e p ≡ held was
   pub is : Neighbour
   pub held-is : siteAt f p ≡ held is
   pub same : is .peer ≡ was .peer
 
-pub moved-found : (peer : Peer) (e f : End) (p t : ℕ) → p < length (e .places) → Moves e p t f → holdsPeer peer (siteAt f p) ≡ holdsPeer peer (siteAt e p) → placeOf f peer ≡ placeOf e peer
+pub moved-found : {below : ℕ → Bool} (peer : Peer) (e f : End) (p t : ℕ) → p < length (e .places) → Moves below e p t f → holdsPeer peer (siteAt f p) ≡ holdsPeer peer (siteAt e p) → placeOf f peer ≡ placeOf e peer
 moved-found peer e f p t l M same =
     let at : siteAt f p ≡ M .site = ap (λ ss. getD ss p vacant) (M .places) ∙ getD-set-same (e .places) p (M .site) vacant l in
     ap (firstFrom (holdsPeer peer) 0) (M .places) ∙ first-set (holdsPeer peer) (e .places) p 0 (M .site) (ap (holdsPeer peer) (sym at) ∙ same)
 
-pub moved-bare : (e f : End) (p t : ℕ) → Moves e p t f → isHeld (siteAt f p) ≡ true → ((k : ℕ) → isHeld (siteAt e k) ≡ false → e .book k ≡ blank)
+pub moved-bare : {below : ℕ → Bool} (e f : End) (p t : ℕ) → Moves below e p t f → isHeld (siteAt f p) ≡ true → ((k : ℕ) → isHeld (siteAt e k) ≡ false → e .book k ≡ blank)
     → (k : ℕ) → isHeld (siteAt f k) ≡ false → f .book k ≡ blank
 moved-bare e f p t M hd B k n =
     elim (cases-eq k p) [
@@ -90,10 +90,10 @@ moved-bare e f p t M hd B k n =
       | inr ne ↦ M .book k ne ∙ B k (ap isHeld (sym (other-site e p t f M k ne)) ∙ n)
     ]
 
-pub moved-sized : (e f : End) (p t : ℕ) → Moves e p t f → length (e .places) ≡ 32 → length (f .places) ≡ 32
+pub moved-sized : {below : ℕ → Bool} (e f : End) (p t : ℕ) → Moves below e p t f → length (e .places) ≡ 32 → length (f .places) ≡ 32
 moved-sized e f p t M z = ap length (M .places) ∙ length-set (e .places) p (M .site) ∙ z
 
-pub tied-turned : (peer : Peer) (e f : End) (q : Option ℕ) (p t : ℕ) → p < 32 → Turned e p t f → Tied peer e q → Tied peer f q
+pub tied-turned : {below : ℕ → Bool} (peer : Peer) (e f : End) (q : Option ℕ) (p t : ℕ) → p < 32 → Turned below e p t f → Tied peer e q → Tied peer f q
 tied-turned peer e f q p t l U T =
     let z = T .sized in
     record {
@@ -104,7 +104,7 @@ tied-turned peer e f q p t l U T =
     }
 
 -- a call that is nothing to the place q
-pub aside-moved : (τ : Pace) (depth : ℕ) (h : History) (s : Side) (e f : End) (q : Option ℕ) (p t : ℕ) (b : Bool) → Moves e p t f → isThere q p ≡ false
+pub aside-moved : {below : ℕ → Bool} (τ : Pace) (depth : ℕ) (h : History) (s : Side) (e f : End) (q : Option ℕ) (p t : ℕ) (b : Bool) → Moves below e p t f → isThere q p ≡ false
     → f .next ≡ bump b (e .next) → Goes heardIn τ depth h s (viewAt e q) (aside b) (viewAt f q)
 aside-moved τ depth h s e f None p t b M away n = goes-aside b refl refl refl n (let l = M .latest in let k = M .forward in omega arith)
 aside-moved τ depth h s e f (Some r) p t b M away n =

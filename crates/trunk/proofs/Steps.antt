@@ -19,9 +19,9 @@ use Rattle.endpoint.specs.declared.refusal.Refusal.{Refusal}
 use Rattle.endpoint.specs.Calls as calls
 use Rattle.endpoint.specs.Ends.{Message, Neighbour, Site, vacant, held, End, siteAt, isHeld, outstandingAt, samePeer, holdsPeer, placeOf, isNone, withOutstanding}
 use Rattle.endpoint.specs.Enrols.{newcomer, enrol, enrolAsks, enrolActs}
-use Rattle.endpoint.specs.Sends.{send, sendAsks, sendActs, awaiting, sentOnce, onlyMessages, isPlain}
+use Rattle.endpoint.specs.Sends.{sendWithin, sendAsks, sendActs, awaiting, sentOnce, onlyMessages, isPlain}
 use Rattle.endpoint.specs.Steps.{Step, refused, askRead}
-use Rattle.endpoint.specs.Ticks.{Move, resends, givesUp, marksSilent, keepsAlive, rests, moveAt, moveWith, watches, retries, fallsSilent, longAtRest, tick, tickAsks, tickActs, resentAt, nowSilent, keptAliveAt}
+use Rattle.endpoint.specs.Ticks.{Move, resends, givesUp, marksSilent, keepsAlive, rests, moveAt, moveWith, watches, retries, fallsSilent, longAtRest, tickWithin, tickAsks, tickActs, resentAt, nowSilent, keptAliveAt}
 use Rattle.endpoint.specs.Timing.{standingTimers}
 use Rattle.endpoint.proofs.Asked.{AllYes, by-questions, was-read}
 use Rattle.endpoint.proofs.Moving.{Moves}
@@ -36,7 +36,7 @@ use Rattle.arrivals.specs.declared.book.Judgement.the-variants.{Fresh, Again, O
 use Rattle.arrivals.specs.Meaning.{Seen, Book, judged, judgedAt, noted, notedAt, isFresh}
 use Rattle.endpoint.specs.declared.answer.Outcome as answered
 use Rattle.endpoint.specs.declared.answer.Settled.{Settled}
-use Rattle.endpoint.specs.Arrives.{handedOut, settles, keptUnless, heardAt, isCurrent, orNowhere, orBlank, senderPlace, arriveAsks, hearing, arriveActs, arrive}
+use Rattle.endpoint.specs.Arrives.{handedOut, settles, keptUnless, heardAt, isCurrent, orNowhere, orBlank, senderPlace, arriveAsks, hearing, arriveActs, arriveWithin}
 use Rattle.endpoint.specs.Arrives.{saidBy as end-said}
 use Rattle.endpoint.specs.Replies.{replyTo, replyOctets, replySent, replying, decided}
 use Rattle.trunk.specs.Acts.{Octets, saidBy, Side, other, sent-again, gave-up, kept-alive, let-be, Act, aside, sends, ticks, arrives, History, Wrote}
@@ -153,7 +153,7 @@ was-said d y = let k = was-read (read d) y in k .1 ∙ ap Ok (sym (ap orBlank (k
 abbrev withWaiting : Option Message → Neighbour → Neighbour
 withWaiting m n = record { peer = n .peer; role = n .role; heard = n .heard; keptAlive = n .keptAlive; silent = n .silent; outstanding = m }
 
-module _ (peer : Peer) (depth : ℕ) (s : Side) (h : History) where
+module _ (below : ℕ → Bool) (peer : Peer) (depth : ℕ) (s : Side) (h : History) where
   -- what a call is to show
   pub record Good (e : End) (q : Option ℕ) (c : calls.Call) (from : ℕ) (x : Step calls.Answer) : Type 0 where
     pub goes : Goes heardIn pace depth h s (viewAt e q) (actOf peer q c from (x .answer) (x .wrote)) (viewAt (x .after) (placeAfter peer c (x .answer) q))
@@ -190,7 +190,7 @@ module _ (peer : Peer) (depth : ℕ) (s : Side) (h : History) where
 
   -- an accepted call at a place that holds the same peer before and after
   accepted : (e : End) (q : Option ℕ) → Tied peer e q → (c : calls.Call) (from : ℕ) (x : Step calls.Answer) (p t : ℕ) (a : Act) (b : Bool) → p < 32
-      → actOf peer q c from (x .answer) (x .wrote) ≡ cond (isThere q p) a (aside b) → placeAfter peer c (x .answer) q ≡ q → Turned e p t (x .after)
+      → actOf peer q c from (x .answer) (x .wrote) ≡ cond (isThere q p) a (aside b) → placeAfter peer c (x .answer) q ≡ q → Turned below e p t (x .after)
       → x .after .next ≡ bump b (e .next) → x .after .given ≡ e .given + cond b 1 0 → takes a ≡ b
       → (isThere q p ≡ true → Goes heardIn pace depth h s (viewAt e (Some p)) a (viewAt (x .after) (Some p))) → Good e q c from x
   accepted e q T c from x p t a b l act place U n g k G =
@@ -216,7 +216,7 @@ module _ (peer : Peer) (depth : ℕ) (s : Side) (h : History) where
       let z = T .sized in
       let long : p < length (e .places) = omega arith in
       let at : siteAt f p ≡ x = getD-set-same (e .places) p x vacant long in
-      let M = enrol-moves e p t b role (place, (early, (forth, (vacancy, (free, more))))) in
+      let M = enrol-moves below e p t b role (place, (early, (forth, (vacancy, (free, more))))) in
       make-good e q (calls.enrols p t b role) from (calls.answering (λ u. calls.enrolled) (enrolActs e p t b role)) (Some p) (aside false) (rw same refl) refl
       (subst (λ u. Goes heardIn pace depth h s (viewAt e u) (aside false) (viewAt f (Some p))) (sym qn)
       (goes-aside false refl (ap (λ u. mapped waitingAs (outstandingAt u)) at) (T .bare p (not-true _ vacancy)) refl (leb-true _ _ forth)))
@@ -233,7 +233,7 @@ module _ (peer : Peer) (depth : ℕ) (s : Side) (h : History) where
       let z = T .sized in
       let long : p < length (e .places) = omega arith in
       let at : siteAt f p ≡ x = getD-set-same (e .places) p x vacant long in
-      let M = enrol-moves e p t b role (place, (early, (forth, (vacancy, (free, more))))) in
+      let M = enrol-moves below e p t b role (place, (early, (forth, (vacancy, (free, more))))) in
       let empty = not-true _ vacancy in
       let away : isThere q p ≡ false = elim (cases-bool (isThere q p)) [
         | inl y ↦ absurd (true≢false (sym (holds-held peer (siteAt e p) (found-there peer e q p (T .found) (there-is q p y) .1)) ∙ empty))
@@ -249,14 +249,14 @@ module _ (peer : Peer) (depth : ℕ) (s : Side) (h : History) where
       (omega arith)
 
   pub enrol-good : (e : End) (q : Option ℕ) → Tied peer e q → (p t : ℕ) (b : Peer) (role : Role) (from : ℕ)
-      → Good e q (calls.enrols p t b role) from (calls.called depth e (calls.enrols p t b role))
+      → Good e q (calls.enrols p t b role) from (calls.calledWithin below depth e (calls.enrols p t b role))
   unfolding enrol
   enrol-good e q T p t b role from =
       by-questions (enrolAsks e p t b) e (enrolActs e p t b role) (λ x. Good e q (calls.enrols p t b role) from (calls.answering (λ u. calls.enrolled) x))
       (refused-good e q (calls.enrols p t b role) from T) (λ y. enrolled-good e q T p t b role from y (samePeer b peer) refl)
 
   -- 2. send
-  sent-good : (e : End) (q : Option ℕ) → Tied peer e q → (p t : ℕ) (want : Bool) (b : Octets) (room from : ℕ) → AllYes (sendAsks e p t want b room)
+  sent-good : (e : End) (q : Option ℕ) → Tied peer e q → (p t : ℕ) (want : Bool) (b : Octets) (room from : ℕ) → AllYes (sendAsks below e p t want b room)
       → Good e q (calls.sends p t want b room) from (calls.answering calls.sent (sendActs e p t want (headed (e .next) want b)))
   sent-good e q T p t true b room from (place, (early, (forth, (there, (fits, (sized, (readable, (only, (free, (given, more)))))))))) =
       let l = ltb-true p 32 place in
@@ -269,7 +269,7 @@ module _ (peer : Peer) (depth : ℕ) (s : Side) (h : History) where
       let at = getD-set-same (e .places) p (awaiting (e .next) t d (siteAt e p)) vacant (omega arith) ∙ ap (awaiting (e .next) t d) (H .1) in
       accepted e q T (calls.sends p t true b room) from (calls.answering calls.sent (sendActs e p t true d)) p t (sends true t b d) true l refl refl
       record {
-        moves = send-moves e p t true b room (place, (early, (forth, (there, (fits, (sized, (readable, (only, (free, (given, more))))))))));
+        moves = send-moves below e p t true b room (place, (early, (forth, (there, (fits, (sized, (readable, (only, (free, (given, more))))))))));
         was = H .0;
         held-was = H .1;
         is = withWaiting (Some (sentOnce standingTimers (e .next) t d)) (H .0);
@@ -287,7 +287,7 @@ module _ (peer : Peer) (depth : ℕ) (s : Side) (h : History) where
       let plain : every (isPlain b) (r .0) ≡ true = subst (λ u. onlyMessages b u ≡ true) (r .1) only in
       accepted e q T (calls.sends p t false b room) from (calls.answering calls.sent (sendActs e p t false d)) p t (sends false t b d) true l refl refl
       record {
-        moves = send-moves e p t false b room (place, (early, (forth, (there, (fits, (sized, (readable, (only, (free, (given, more))))))))));
+        moves = send-moves below e p t false b room (place, (early, (forth, (there, (fits, (sized, (readable, (only, (free, (given, more))))))))));
         was = H .0;
         held-was = H .1;
         is = H .0;
@@ -298,10 +298,10 @@ module _ (peer : Peer) (depth : ℕ) (s : Side) (h : History) where
       (λ y. goes-telling t b d refl (send-heard (e .next) false b (r .0) sized (r .1) plain) refl refl refl (leb-true _ _ forth))
 
   pub send-good : (e : End) (q : Option ℕ) → Tied peer e q → (p t : ℕ) (want : Bool) (b : Octets) (room from : ℕ)
-      → Good e q (calls.sends p t want b room) from (calls.called depth e (calls.sends p t want b room))
-  unfolding send
+      → Good e q (calls.sends p t want b room) from (calls.calledWithin below depth e (calls.sends p t want b room))
+  unfolding sendWithin
   send-good e q T p t want b room from =
-      by-questions (sendAsks e p t want b room) e (sendActs e p t want (headed (e .next) want b)) (λ x. Good e q (calls.sends p t want b room) from (calls.answering calls.sent x))
+      by-questions (sendAsks below e p t want b room) e (sendActs e p t want (headed (e .next) want b)) (λ x. Good e q (calls.sends p t want b room) from (calls.answering calls.sent x))
       (refused-good e q (calls.sends p t want b room) from T) (sent-good e q T p t want b room from)
 
   -- 3. tick
@@ -312,7 +312,7 @@ module _ (peer : Peer) (depth : ℕ) (s : Side) (h : History) where
     site-set : (x : Site) → getD (set (e .places) p x) p vacant ≡ x
     site-set x = let z = T .sized in getD-set-same (e .places) p x vacant (omega arith)
 
-    turned-to : (f : End) (m : Neighbour) → Moves e p t f → siteAt f p ≡ held m → m .peer ≡ n .peer → Turned e p t f
+    turned-to : (f : End) (m : Neighbour) → Moves below e p t f → siteAt f p ≡ held m → m .peer ≡ n .peer → Turned below e p t f
     turned-to f m M at same = record { moves = M; was = n; held-was = H; is = m; held-is = at; same = same }
 
     not-due : ((m : Message) → outstandingAt (siteAt e p) ≡ Some m → t < m .due) → (w : Waiting) → mapped waitingAs (outstandingAt (siteAt e p)) ≡ Some w → t < w .due
@@ -321,7 +321,7 @@ module _ (peer : Peer) (depth : ℕ) (s : Side) (h : History) where
     out-same : (x : Site) → outstandingAt x ≡ n .outstanding → (y : Site) → y ≡ x → mapped waitingAs (outstandingAt y) ≡ mapped waitingAs (outstandingAt (siteAt e p))
     out-same x o y z = ap (mapped waitingAs) (ap outstandingAt z ∙ o ∙ sym (ap outstandingAt H))
 
-    ticked-good : (mv : Move) → Tells t (outstandingAt (siteAt e p)) mv → Moves e p t (tickActs e p t mv .after) → Good e q (calls.ticks p t room) from (did mv)
+    ticked-good : (mv : Move) → Tells t (outstandingAt (siteAt e p)) mv → Moves below e p t (tickActs e p t mv .after) → Good e q (calls.ticks p t room) from (did mv)
     ticked-good (resends m) tells M =
         let at = site-set (resentAt t m (siteAt e p)) ∙ ap (resentAt t m) H in
         accepted e q T (calls.ticks p t room) from (did (resends m)) p t (ticks t (sent-again (m .octets))) false l refl refl
@@ -348,14 +348,14 @@ module _ (peer : Peer) (depth : ℕ) (s : Side) (h : History) where
         (turned-to _ n M H refl) refl (omega arith) refl
         (λ y. goes-waiting t false let-be refl (inl (refl, refl)) (not-due tells) refl refl refl forth refl)
 
-  pub tick-good : (e : End) (q : Option ℕ) → Tied peer e q → (p t room from : ℕ) → Good e q (calls.ticks p t room) from (calls.called depth e (calls.ticks p t room))
-  unfolding tick
+  pub tick-good : (e : End) (q : Option ℕ) → Tied peer e q → (p t room from : ℕ) → Good e q (calls.ticks p t room) from (calls.calledWithin below depth e (calls.ticks p t room))
+  unfolding tickWithin
   tick-good e q T p t room from =
-      by-questions (tickAsks e p t room) e (tickActs e p t (moveAt t (siteAt e p))) (λ x. Good e q (calls.ticks p t room) from (calls.answering calls.ticked x))
+      by-questions (tickAsks below e p t room) e (tickActs e p t (moveAt t (siteAt e p))) (λ x. Good e q (calls.ticks p t room) from (calls.answering calls.ticked x))
       (refused-good e q (calls.ticks p t room) from T)
       (λ y. let H = held-is (siteAt e p) (y .1 .1 .1 .0) in
       ticked-good e q T p t room from (ltb-true p 32 (y .0)) (leb-true _ _ (y .1 .1 .0)) (H .0) (H .1) (moveAt t (siteAt e p))
-      (move-tells t (siteAt e p)) (tick-moves e p t room y))
+      (move-tells t (siteAt e p)) (tick-moves below e p t room y))
 
   -- 4. arrive
   module _ (e : End) (q : Option ℕ) (T : Tied peer e q) (t : ℕ) (sender : Peer) (d : Octets) (room from : ℕ)
@@ -433,13 +433,13 @@ module _ (peer : Peer) (depth : ℕ) (s : Side) (h : History) where
         ≡ arrives from fresh (cond fresh (heardAs g .hands) []) (changes.settles fresh (mapped waitingAs (outstandingAt (siteAt e p))) (heardAs g)) r
     act-as r = ap (λ u. arrives from fresh u (mapped settledAs settling-now) r) hands-as ∙ ap (λ u. arrives from fresh (cond fresh (heardAs g .hands) []) u r) settled-as
 
-    turned-by : (f : End) → Moves e p t f → siteAt f p ≡ heardAt t settling-now (held n) → Turned e p t f
+    turned-by : (f : End) → Moves below e p t f → siteAt f p ≡ heardAt t settling-now (held n) → Turned below e p t f
     turned-by f M at = record { moves = M; was = n; held-was = H; is = heardNow settling-now; held-is = at; same = refl }
       where
         heardNow : Option Settled → Neighbour
         heardNow s′ = record { peer = n .peer; role = n .role; heard = t; keptAlive = n .keptAlive; silent = false; outstanding = keptUnless s′ (n .outstanding) }
 
-    came-good : (rs : List Content) → replyTo g ≡ rs → Moves e p t (came rs .after) → Good e q (calls.arrives t sender d room) from (came rs)
+    came-good : (rs : List Content) → replyTo g ≡ rs → Moves below e p t (came rs .after) → Good e q (calls.arrives t sender d room) from (came rs)
     came-good [] rr M =
         accepted e q T (calls.arrives t sender d room) from (came []) p t
         (arrives from fresh (map saidBy (cond fresh (handedOut (g .payloads)) [])) (mapped settledAs settling-now) None) false low
@@ -462,13 +462,13 @@ module _ (peer : Peer) (depth : ℕ) (s : Side) (h : History) where
 
   pub arrive-good : (e : End) (q : Option ℕ) → Tied peer e q → (t : ℕ) (sender : Peer) (d : Octets) (room from : ℕ)
       → (samePeer sender peer ≡ true → Wrote h from (other s) d)
-      → Good e q (calls.arrives t sender d room) from (calls.called depth e (calls.arrives t sender d room))
-  unfolding arrive
+      → Good e q (calls.arrives t sender d room) from (calls.calledWithin below depth e (calls.arrives t sender d room))
+  unfolding arriveWithin
   arrive-good e q T t sender d room from allowed =
       let fresh : Bool = isFresh (judged depth (e .book) (senderPlace e sender) (end-said d .number)) in
-      by-questions (arriveAsks depth e t sender d room) e (arriveActs depth e (senderPlace e sender) t fresh (end-said d))
+      by-questions (arriveAsks below depth e t sender d room) e (arriveActs depth e (senderPlace e sender) t fresh (end-said d))
       (λ x. Good e q (calls.arrives t sender d room) from (calls.answering calls.arrived x))
       (refused-good e q (calls.arrives t sender d room) from T)
       (λ y. came-good e q T t sender d room from allowed (leb-true _ _ (y .1 .0)) (senderPlace e sender) (sender-place (placeOf e sender) (y .1 .1 .0)) (end-said d)
       (was-said d (y .1 .1 .1 .1 .0)) (y .1 .1 .1 .1 .1 .0) (leb-true _ _ (y .1 .1 .1 .1 .1 .1 .0))
-      (replyTo (end-said d)) refl (arrive-moves depth e t sender d room fresh y))
+      (replyTo (end-said d)) refl (arrive-moves below depth e t sender d room fresh y))

@@ -9,7 +9,7 @@ use lib.Dec.{lit≤}
 use Rattle.std.specs.declared.option.Option.{Option}
 use Rattle.std.specs.declared.result.Result.{Result}
 use Rattle.std.specs.declared.result.Result.the-variants.{Ok, Err}
-use Rattle.std.proofs.shelf.Tests.{cases-bool, false≢true}
+use Rattle.std.proofs.shelf.Tests.{cases-bool, false≢true, ltb-true}
 use Rattle.arrivals.specs.Meaning.{newBook, blank}
 use Rattle.endpoint.specs.declared.answer.Ticked as ticking
 use Rattle.endpoint.specs.declared.answer.Ticked.the-variants.{Resent, Unanswered, Silent, KeptAlive, Idle}
@@ -17,6 +17,7 @@ use Rattle.endpoint.specs.declared.refusal.Refusal.{Refusal}
 use Rattle.endpoint.specs.Calls as calls
 use Rattle.endpoint.specs.Ends.{End, samePeer}
 use Rattle.endpoint.specs.Steps.{Step}
+use Rattle.endpoint.specs.Timing.{numbersLeft}
 use Rattle.endpoint.proofs.EndLaws.{did}
 use Rattle.trunk.specs.Acts.{Octets, Said, Outcome, Side, other, same, Act, aside, arrives, History}
 use Rattle.trunk.specs.Timely.{takes, given, Timely}
@@ -32,19 +33,22 @@ use Rattle.trunk.proofs.Steps.{pace, Good, enrol-good, send-good, tick-good, a
 abbrev views : (σ : Setting) → World → Side → View
 views σ w s = viewAt (w .ends s) (placeFor σ s (w .log))
 
--- what holds after every call
+-- the changes lead to the views of both ends
+abbrev LedTo : (σ : Setting) → World → Type 0
+LedTo σ w = Reached heardIn pace (σ .start) (σ .depth) (history σ (w .log)) (views σ w)
+
+-- what holds after every call, in time or not
 pub record Holds (σ : Setting) (w : World) : Type 0 where
-  pub reached : Reached heardIn pace (σ .start) (σ .depth) (history σ (w .log)) (views σ w)
   pub tied : (s : Side) → Tied (σ .peer (other s)) (w .ends s) (placeFor σ s (w .log))
   pub counted : (s : Side) → w .ends s .given ≡ given (history σ (w .log)) s
 
 -- each call is a change
 call-good : (σ : Setting) (w : World) (y : Side) (from : ℕ) (c : calls.Call) → Tied (σ .peer (other y)) (w .ends y) (placeFor σ y (w .log)) → AllowedCall σ w y from c
-    → Good (σ .peer (other y)) (σ .depth y) y (history σ (w .log)) (w .ends y) (placeFor σ y (w .log)) c from (calls.called (σ .depth y) (w .ends y) c)
-call-good σ w y from (calls.enrols p t b role) T al = enrol-good (σ .peer (other y)) (σ .depth y) y (history σ (w .log)) (w .ends y) (placeFor σ y (w .log)) T p t b role from
-call-good σ w y from (calls.sends p t want b room) T al = send-good (σ .peer (other y)) (σ .depth y) y (history σ (w .log)) (w .ends y) (placeFor σ y (w .log)) T p t want b room from
-call-good σ w y from (calls.ticks p t room) T al = tick-good (σ .peer (other y)) (σ .depth y) y (history σ (w .log)) (w .ends y) (placeFor σ y (w .log)) T p t room from
-call-good σ w y from (calls.arrives t b d room) T al = arrive-good (σ .peer (other y)) (σ .depth y) y (history σ (w .log)) (w .ends y) (placeFor σ y (w .log)) T t b d room from al
+    → Good (σ .below) (σ .peer (other y)) (σ .depth y) y (history σ (w .log)) (w .ends y) (placeFor σ y (w .log)) c from (calls.calledWithin (σ .below) (σ .depth y) (w .ends y) c)
+call-good σ w y from (calls.enrols p t b role) T al = enrol-good (σ .below) (σ .peer (other y)) (σ .depth y) y (history σ (w .log)) (w .ends y) (placeFor σ y (w .log)) T p t b role from
+call-good σ w y from (calls.sends p t want b room) T al = send-good (σ .below) (σ .peer (other y)) (σ .depth y) y (history σ (w .log)) (w .ends y) (placeFor σ y (w .log)) T p t want b room from
+call-good σ w y from (calls.ticks p t room) T al = tick-good (σ .below) (σ .peer (other y)) (σ .depth y) y (history σ (w .log)) (w .ends y) (placeFor σ y (w .log)) T p t room from
+call-good σ w y from (calls.arrives t b d room) T al = arrive-good (σ .below) (σ .peer (other y)) (σ .depth y) y (history σ (w .log)) (w .ends y) (placeFor σ y (w .log)) T t b d room from al
 
 -- only an arrival under the other's peer is an arrival between the two
 send-not : (z : Bool) (want : Bool) (t : ℕ) (b d : Octets) (x : Result calls.Answer Refusal) → isArrival (cond z (asSend want t b d x) (aside (gave x))) ≡ false
@@ -89,7 +93,7 @@ timely-call σ w y from (calls.arrives t b g room) it q x d k f ps o r e =
       | inr z ↦ absurd (false≢true (ap isArrival (rw z at e)))
     ]
 
-module _ (σ : Setting) (w : World) (c : Turn) (al : AllowedCall σ w (c .side) (c .from) (c .call)) (it : InTimeCall σ w (c .side) (c .from) (c .call)) (I : Holds σ w) where
+module _ (σ : Setting) (w : World) (c : Turn) (al : AllowedCall σ w (c .side) (c .from) (c .call)) (I : Holds σ w) where
   abbrev y : Side
   y = c .side
 
@@ -111,7 +115,7 @@ module _ (σ : Setting) (w : World) (c : Turn) (al : AllowedCall σ w (c .side) 
   abbrev w′ : World
   w′ = turned σ w c
 
-  G : Good (σ .peer (other y)) (σ .depth y) y h (w .ends y) q (c .call) (c .from) x
+  G : Good (σ .below) (σ .peer (other y)) (σ .depth y) y h (w .ends y) q (c .call) (c .from) x
   G = call-good σ w y (c .from) (c .call) (I .tied y) al
 
   end-own : w′ .ends y ≡ x .after
@@ -132,12 +136,15 @@ module _ (σ : Setting) (w : World) (c : Turn) (al : AllowedCall σ w (c .side) 
   view-other : views σ w′ (other y) ≡ views σ w (other y)
   view-other = ap (λ e. viewAt e (placeFor σ (other y) (w′ .log))) end-other ∙ ap (viewAt (w .ends (other y))) place-other
 
+  pub leads-on : InTimeCall σ w (c .side) (c .from) (c .call) → LedTo σ w → LedTo σ w′
+  leads-on it R =
+      went-on h (views σ w) y a R refl view-other
+      (subst (λ u. Goes heardIn pace (σ .depth y) h y (views σ w y) a u) (sym view-own) (G .goes))
+      (timely-call σ w y (c .from) (c .call) it q (x .answer) (x .wrote))
+
   pub keeps : Holds σ w′
   keeps =
       record {
-        reached = went-on h (views σ w) y a (I .reached) refl view-other
-            (subst (λ u. Goes heardIn pace (σ .depth y) h y (views σ w y) a u) (sym view-own) (G .goes))
-            (timely-call σ w y (c .from) (c .call) it q (x .answer) (x .wrote));
         tied = λ s. elim (side-cases s y) [
           | inl e ↦ subst (λ u. Tied (σ .peer (other u)) (w′ .ends u) (placeFor σ u (w′ .log))) (sym e)
               (subst (λ u. Tied (σ .peer (other y)) u (placeFor σ y (w′ .log))) (sym end-own)
@@ -154,9 +161,13 @@ module _ (σ : Setting) (w : World) (c : Turn) (al : AllowedCall σ w (c .side) 
         ];
       }
 
-keeps-all : (σ : Setting) (cs : List Turn) (w : World) → Holds σ w → Proper σ w cs → InTime σ w cs → Holds σ (run σ w cs)
-keeps-all σ [] w I P O = I
-keeps-all σ (c ∷ cs) w I P O = keeps-all σ cs (turned σ w c) (keeps σ w c (P .0) (O .0) I) (P .1) (O .1)
+keeps-all : (σ : Setting) (cs : List Turn) (w : World) → Holds σ w → Proper σ w cs → Holds σ (run σ w cs)
+keeps-all σ [] w I P = I
+keeps-all σ (c ∷ cs) w I P = keeps-all σ cs (turned σ w c) (keeps σ w c (P .0) I) (P .1)
+
+leads-all : (σ : Setting) (cs : List Turn) (w : World) → Holds σ w → LedTo σ w → Proper σ w cs → InTime σ w cs → LedTo σ (run σ w cs)
+leads-all σ [] w I R P O = R
+leads-all σ (c ∷ cs) w I R P O = leads-all σ cs (turned σ w c) (keeps σ w c (P .0) I) (leads-on σ w c (P .0) I (O .0) R) (P .1) (O .1)
 
 nothing-noted : (p : ℕ) → newBook p ≡ blank
 unfolding newBook
@@ -165,7 +176,6 @@ nothing-noted p = refl
 starts-so : (σ : Setting) → Holds σ (newly σ)
 starts-so σ =
     record {
-      reached = begun refl (λ s. refl) (λ s. refl) (λ s. refl);
       tied = λ s. record { found = refl; bare = λ p n. nothing-noted p; sized = refl };
       counted = λ s. refl;
     }
@@ -173,23 +183,26 @@ starts-so σ =
 pub in-time-keep-the-law : Two-ends-in-time-keep-the-law 4 3000
 in-time-keep-the-law σ S cs P O =
     changes-keep-the-law heardIn pace (σ .start) (σ .depth) (lit≤ tt) (lit≤ tt) (S .starts) (S .deep) (S .shallow) (historyOf σ cs) (views σ (run σ (newly σ) cs))
-    (keeps-all σ cs (newly σ) (starts-so σ) P O .reached)
+    (leads-all σ cs (newly σ) (starts-so σ) (begun refl (λ s. refl) (λ s. refl) (λ s. refl)) P O)
 
--- neither end gives more than half of the numbers, so whatever arrives is in time
+-- under the standing question 12 neither end gives more than half of the numbers, so whatever arrives is in time
+abbrev Standing : Setting → Type 0
+Standing σ = (n : ℕ) → σ .below n ≡ numbersLeft n
+
 abbrev FewGiven : World → Type 0
 FewGiven w = (s : Side) → w .ends s .given ≤ 8388608
 
-few-after : (depth : ℕ) (e : End) (c : calls.Call) → e .given ≤ 8388608 → calls.called depth e c .after .given ≤ 8388608
-few-after depth e c few =
-    elim (did depth e c) [
+few-after : (σ : Setting) → Standing σ → (depth : ℕ) (e : End) (c : calls.Call) → e .given ≤ 8388608 → calls.calledWithin (σ .below) depth e c .after .given ≤ 8388608
+few-after σ B depth e c few =
+    elim (did (σ .below) depth e c) [
       | inl r ↦ subst (λ x. x .after .given ≤ 8388608) (sym (r .1)) few
-      | inr m ↦ elim (m .2 .numbering) [ inl k ↦ (let k0 = k .0 in omega arith) | inr k ↦ (let k0 = k .0 in let k1 = k .1 in omega arith) ]
+      | inr m ↦ elim (m .2 .numbering) [ inl k ↦ (let k0 = k .0 in omega arith) | inr k ↦ (let k0 = ltb-true (e .given) 8388608 (sym (B (e .given)) ∙ k .0) in let k1 = k .1 in omega arith) ]
     ]
 
-few-turned : (σ : Setting) (w : World) (c : Turn) → FewGiven w → FewGiven (turned σ w c)
-few-turned σ w c few s =
+few-turned : (σ : Setting) → Standing σ → (w : World) (c : Turn) → FewGiven w → FewGiven (turned σ w c)
+few-turned σ B w c few s =
     elim (same s (c .side)) as (λ b. (cond b (stepOf σ w c .after) (w .ends s)) .given ≤ 8388608) [
-      | true ↦ few-after (σ .depth (c .side)) (w .ends (c .side)) (c .call) (few (c .side))
+      | true ↦ few-after σ B (σ .depth (c .side)) (w .ends (c .side)) (c .call) (few (c .side))
       | false ↦ few s
     ]
 
@@ -203,20 +216,20 @@ in-time σ w I few y from (calls.arrives t b d room) =
     let g′ = all (other y) in
     λ e i R. (omega arith, λ H F n. omega arith, omega arith)
 
-all-in-time : (σ : Setting) (cs : List Turn) (w : World) → Holds σ w → FewGiven w → Proper σ w cs → InTime σ w cs
-all-in-time σ [] w I few P = tt
-all-in-time σ (c ∷ cs) w I few P =
+all-in-time : (σ : Setting) → Standing σ → (cs : List Turn) (w : World) → Holds σ w → FewGiven w → Proper σ w cs → InTime σ w cs
+all-in-time σ B [] w I few P = tt
+all-in-time σ B (c ∷ cs) w I few P =
     let it = in-time σ w I few (c .side) (c .from) (c .call) in
-    (it, all-in-time σ cs (turned σ w c) (keeps σ w c (P .0) it I) (few-turned σ w c few) (P .1))
+    (it, all-in-time σ B cs (turned σ w c) (keeps σ w c (P .0) I) (few-turned σ B w c few) (P .1))
 
-proper-in-time : (σ : Setting) (cs : List Turn) → Proper σ (newly σ) cs → InTime σ (newly σ) cs
-proper-in-time σ cs P = all-in-time σ cs (newly σ) (starts-so σ) (λ s. lit≤ tt) P
+proper-in-time : (σ : Setting) → Standing σ → (cs : List Turn) → Proper σ (newly σ) cs → InTime σ (newly σ) cs
+proper-in-time σ B cs P = all-in-time σ B cs (newly σ) (starts-so σ) (λ s. lit≤ tt) P
 
 pub keep-the-law : Two-ends-keep-the-law 4 3000
-keep-the-law σ S cs P = in-time-keep-the-law σ S cs P (proper-in-time σ cs P)
+keep-the-law σ S B cs P = in-time-keep-the-law σ S cs P (proper-in-time σ B cs P)
 
 pub log-tells-truly : Log-tells-truly
 log-tells-truly = record {
-  place = λ σ cs P s. sym (keeps-all σ cs (newly σ) (starts-so σ) P (proper-in-time σ cs P) .tied s .found);
-  numbers = λ σ cs P s. sym (keeps-all σ cs (newly σ) (starts-so σ) P (proper-in-time σ cs P) .counted s);
+  place = λ σ cs P s. sym (keeps-all σ cs (newly σ) (starts-so σ) P .tied s .found);
+  numbers = λ σ cs P s. sym (keeps-all σ cs (newly σ) (starts-so σ) P .counted s);
 }

@@ -13,6 +13,7 @@ use Rattle.endpoint.specs.declared.peer.Role.the-variants.{Master, Slave}
 use Rattle.endpoint.specs.declared.refusal.Refusal.{Refusal}
 use Rattle.endpoint.specs.declared.refusal.Refusal.the-variants.{StillOutstanding}
 use Rattle.endpoint.specs.Calls as calls
+use Rattle.endpoint.specs.Timing.{numbersLeft}
 use Rattle.trunk.specs.Acts.{Octets, acknowledged, Side, left, right, sent-again, gave-up, kept-alive, let-be, aside, sends, ticks, arrives, History}
 use Rattle.trunk.specs.Law.{Law}
 use Rattle.trunk.specs.Refuted.{deed, bodyWith, said, datagramWith}
@@ -32,7 +33,7 @@ depthOf left = 64
 depthOf right = 24
 
 abbrev pub setting : Setting
-setting = record { peer = peerOf; start = startOf; depth = depthOf }
+setting = record { peer = peerOf; start = startOf; depth = depthOf; below = numbersLeft }
 
 abbrev pub turn : Side → calls.Call → ℕ → Turn
 turn s c from = record { side = s; call = c; from = from }

@@ -21,15 +21,18 @@ use Rattle.endpoint.specs.Arrives.{Arrival}
 use Rattle.endpoint.specs.Calls as calls
 use Rattle.endpoint.specs.Ends.{End, newEnd, samePeer, placeOf, isNone}
 use Rattle.endpoint.specs.Steps.{Step}
+use Rattle.endpoint.specs.Timing.{numbersLeft}
 use Rattle.trunk.specs.Acts.{Octets, saidBy, Outcome, acknowledged, rejected, Side, left, right, other, same, sent-again, gave-up, kept-alive, let-be, Act, aside, sends, ticks, arrives, Deed, History, Wrote}
 use Rattle.trunk.specs.Law.{Law}
 use Rattle.trunk.specs.Timely.{given, Timely}
 
--- how the two are set up: by which peer the other knows each of them, its start number, and how deep its book is
+-- how the two are set up: by which peer the other knows each of them, its start number, how deep its book is, and question 12 of both: of how
+-- many numbers were given, whether one more may be
 pub record Setting : Type 0 where
   pub peer : Side → Peer
   pub start : Side → ℕ
   pub depth : Side → ℕ
+  pub below : ℕ → Bool
 
 -- what is asked of a setting
 pub record Sound (σ : Setting) : Type 0 where
@@ -160,7 +163,7 @@ module _ (σ : Setting) where
   history (e ∷ l) = deedOf l e ∷ history l
 
   abbrev pub stepOf : World → Turn → Step calls.Answer
-  stepOf w c = calls.called (σ .depth (c .side)) (w .ends (c .side)) (c .call)
+  stepOf w c = calls.calledWithin (σ .below) (σ .depth (c .side)) (w .ends (c .side)) (c .call)
 
   abbrev pub entryOf : World → Turn → Entry
   entryOf w c = record { turn = c; answer = stepOf w c .answer; wrote = stepOf w c .wrote }
@@ -202,14 +205,15 @@ module _ (σ : Setting) where
   abbrev pub historyOf : List Turn → History
   historyOf cs = history (run newly cs .log)
 
--- every list of calls on two new ends keeps the law, where what arrives is in time
+-- every list of calls on two new ends keeps the law, where what arrives is in time: of ends that may give numbers for ever, too
 abbrev pub Two-ends-in-time-keep-the-law : ℕ → ℕ → Type 0
 Two-ends-in-time-keep-the-law tries gap =
     (σ : Setting) → Sound σ → (cs : List Turn) → Proper σ (newly σ) cs → InTime σ (newly σ) cs → Law tries gap (historyOf σ cs)
 
--- and an end gives so few numbers that whatever arrives is in time
+-- and under the standing question 12, an end gives so few numbers that whatever arrives is in time
 abbrev pub Two-ends-keep-the-law : ℕ → ℕ → Type 0
-Two-ends-keep-the-law tries gap = (σ : Setting) → Sound σ → (cs : List Turn) → Proper σ (newly σ) cs → Law tries gap (historyOf σ cs)
+Two-ends-keep-the-law tries gap =
+    (σ : Setting) → Sound σ → ((n : ℕ) → σ .below n ≡ numbersLeft n) → (cs : List Turn) → Proper σ (newly σ) cs → Law tries gap (historyOf σ cs)
 
 -- what the log tells is so: the place that it gives for the other end is the one that holds it, and the numbers that it counts are those given
 pub record Log-tells-truly : Type 0 where

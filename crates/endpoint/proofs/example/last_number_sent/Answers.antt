@@ -1,14 +1,14 @@
 -- The examples, by computing them.
 use mathlib.Core.Path.{refl}
 use Rattle.arrivals.specs.Meaning.{judged, judgedAt, judgedNumber, newBook}
-use Rattle.endpoint.specs.Arrives.{arrive}
+use Rattle.endpoint.specs.Arrives.{arriveWithin}
 use Rattle.endpoint.specs.Enrols.{enrol}
-use Rattle.endpoint.specs.Sends.{send}
-use Rattle.endpoint.specs.Ticks.{tick}
+use Rattle.endpoint.specs.Sends.{sendWithin}
+use Rattle.endpoint.specs.Ticks.{tickWithin}
 use Rattle.endpoint.proofs.example.last_number_sent.Needs as need
 
 pub returns : need.returns
-unfolding judged judgedAt judgedNumber newBook enrol send tick arrive
+unfolding judged judgedAt judgedNumber newBook enrol sendWithin tickWithin arriveWithin
 returns c = record {
   octets = refl;
   examples = record {
