@@ -6,10 +6,10 @@ use Rattle.datagram.proofs.Places.{next_gives, next_refuses, next_moves, next_st
 use Rattle.datagram.proofs.reader.Reader.next.Goals as goal
 use Rattle.datagram.proofs.reader.Reader.next.Goals.{In-Some}
 
-pub returns-in-default : goal.returns-in-default
-returns-in-default c =
+pub returns-in_default : goal.returns-in_default
+returns-in_default c =
     let r = c.args.self.now in
-    let h : length r.datagram.now ≤ r.at = omega (arith, c.in-default.ensures.lookup.0) in
+    let h : length r.datagram.now ≤ r.at = omega (arith, c.in_default.ensures.lookup.0) in
     let e = next_refuses r.datagram.now r.at r.left _ (omega arith) (payload_past r.datagram.now r.at h) in
     record { gives = e; moves = next_stays _ _ _ _ e }
 
@@ -19,17 +19,17 @@ same_part c =
     let r = c.args.self.now in
     ap (λ l. payload_at l r.at) (c.in-Some.ensures.lookup.0.2 ∙ take_rest r.datagram.now r.at)
 
-pub returns-in-err-payload : goal.returns-in-err-payload
-returns-in-err-payload c =
+pub returns-in_err-payload : goal.returns-in_err-payload
+returns-in_err-payload c =
     let r = c.args.self.now in
-    let p = err_from_is_err_and c.from-residual.result c.from-residual.ensures.1 in
-    let s = same_part (goal.at.returns-in-err-payload c).In-Some in
-    let e = next_refuses r.datagram.now r.at r.left c.in-err-payload.field-0.0 (omega arith) (c.in-err-payload.ensures.gives ∙ s) in
+    let p = err_from_is_err_and c.from_residual.result c.from_residual.ensures.1 in
+    let s = same_part (goal.at.returns-in_err-payload c).In-Some in
+    let e = next_refuses r.datagram.now r.at r.left c.in_err-payload.field-0.0 (omega arith) (c.in_err-payload.ensures.gives ∙ s) in
     rw (p.1, p.2) (record { gives = e; moves = next_stays _ _ _ _ e })
 
 pub returns : goal.returns
 returns c =
     let r = c.args.self.now in
     let s = same_part (goal.at.returns c).In-Some in
-    let e = next_gives r.datagram.now r.at r.left _ (omega arith) (c.in-ok-payload.ensures.gives ∙ s) in
+    let e = next_gives r.datagram.now r.at r.left _ (omega arith) (c.in_ok-payload.ensures.gives ∙ s) in
     record { gives = e; moves = next_moves _ _ _ _ e }

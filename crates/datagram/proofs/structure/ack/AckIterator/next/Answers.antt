@@ -11,6 +11,6 @@ pub returns : goal.returns
 returns c =
     let d = c.args.self.now.octets.now in
     let long : 3 ≤ length d = search rules in
-    let number : c.from-be-bytes.result ≡ be24 d 0 = omega arith in
+    let number : c.from_be_bytes.result ≡ be24 d 0 = omega arith in
     let taken = takes_first _ (numbers d) _ _ (rw number (numbers_more d long)) (ap numbers (take_rest d 3)) in
-    record { steps = taken; goes = firm (goes_on (λ n. n) (Some c.from-be-bytes.result) _ _ taken) (λ h. search rules) }
+    record { steps = taken; goes = firm (goes_on (λ n. n) (Some c.from_be_bytes.result) _ _ taken) (λ h. search rules) }

@@ -7,5 +7,5 @@ use Rattle.std.proofs.Common.{rules}
 
 pub returns : goal.returns
 returns c =
-    let taken = takes_entry (entries_in c.args.self.now) (entries_in c.take-entry.new.self) _ c.take-entry.ensures.gives c.take-entry.ensures.moves in
-    record { steps = taken; goes = firm (goes_on entry_says c.take-entry.result _ _ taken) (λ h. search rules) }
+    let taken = takes_entry (entries_in c.args.self.now) (entries_in c.take_entry.new.self) _ c.take_entry.ensures.gives c.take_entry.ensures.moves in
+    record { steps = taken; goes = firm (goes_on entry_says c.take_entry.result _ _ taken) (λ h. search rules) }
