@@ -18,13 +18,13 @@ returns-in-Fresh g c =
       elsewhere = λ q other. ap (λ b. b q) c.note.ensures ∙ noted_elsewhere kind.depth before place number q other;
     }
 
-pub returns-in-default : goal.returns-in-default
-returns-in-default g c =
+pub returns-in_default : goal.returns-in_default
+returns-in_default g c =
     let kind = g.B.ArrivalBook in
     let before = kind.seen c.args.book.now in
     record {
       judges = c.judge-judgement.ensures.judges;
-      notes = sym (unchanged kind.depth before c.args.place c.args.number (λ f. c.in-default.not-Fresh (c.judge-judgement.ensures.judges ∙ f)));
-      known = not_fresh (judged kind.depth before c.args.place c.args.number) (λ f. c.in-default.not-Fresh (c.judge-judgement.ensures.judges ∙ f));
+      notes = sym (unchanged kind.depth before c.args.place c.args.number (λ f. c.in_default.not-Fresh (c.judge-judgement.ensures.judges ∙ f)));
+      known = not_fresh (judged kind.depth before c.args.place c.args.number) (λ f. c.in_default.not-Fresh (c.judge-judgement.ensures.judges ∙ f));
       elsewhere = λ q other. refl;
     }

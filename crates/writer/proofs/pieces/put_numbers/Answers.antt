@@ -10,8 +10,8 @@ use Rattle.writer.proofs.pieces.put_numbers.Goals as goal
 pub loop-number-init : goal.loop-number-init
 loop-number-init c = puts_none _ _
 
-pub put-number-requires : goal.put-number-requires
-put-number-requires c =
+pub put_number-requires : goal.put_number-requires
+put_number-requires c =
     let ns = c.args.numbers.now in
     let i = c.loop-number.number-index in
     let long = numbers_long ns in
@@ -19,7 +19,7 @@ put-number-requires c =
     (ltb-true _ 16777216 (every_in is_number ns i 0 c.requires.0 c.loop-number-test.true), omega arith)
 
 pub loop-number-preserved : goal.loop-number-preserved
-loop-number-preserved c = puts_more octets24 c.args.numbers.now c.loop-number.number-index 0 c.loop-number.invariant c.loop-number-test.true c.put-number.ensures
+loop-number-preserved c = puts_more octets24 c.args.numbers.now c.loop-number.number-index 0 c.loop-number.invariant c.loop-number-test.true c.put_number.ensures
 
 pub returns : goal.returns
 returns c = puts_all octets24 c.args.numbers.now c.loop-number.number-index c.loop-number.invariant (omega arith)

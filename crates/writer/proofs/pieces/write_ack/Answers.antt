@@ -9,5 +9,5 @@ pub returns : goal.returns
 returns c =
     let ns = c.args.numbers.now in
     let size : 1 + 3 * length ns ≡ length (counted_octets (length ns) (flat_map octets24 ns)) = omega (arith, numbers_long ns) in
-    let p = payload_put 4 c.args.crv _ c.payload-header-head.ensures size c.put.ensures (two_puts c.put-2.ensures c.put-numbers.ensures) in
-    grows_by 4 _ c.new-begun.ensures.value.0 p (search rules) (search rules) c.deserves-ack.ensures
+    let p = payload_put 4 c.args.crv _ c.payload_header-head.ensures size c.put.ensures (two_puts c.put-2.ensures c.put_numbers.ensures) in
+    grows_by 4 _ c.new-begun.ensures.value.0 p (search rules) (search rules) c.deserves_ack.ensures

@@ -4,8 +4,8 @@ use Rattle.writer.specs.Values.{is_number}
 use Rattle.writer.proofs.Elements.{every_stops, every_goes_on, every_ends}
 use Rattle.writer.proofs.size.all_numbers.Goals as goal
 
-pub returns-then-number-gt-LARGEST-NUMBER : goal.returns-then-number-gt-LARGEST-NUMBER
-returns-then-number-gt-LARGEST-NUMBER c =
+pub returns-then-number-gt-LARGEST_NUMBER : goal.returns-then-number-gt-LARGEST_NUMBER
+returns-then-number-gt-LARGEST_NUMBER c =
     sym (c.loop-number.invariant ∙ every_stops is_number c.args.numbers.now c.loop-number.number-index 0 c.loop-number-test.true (le-ltb _ 16777216 (omega arith)))
 
 pub loop-number-preserved : goal.loop-number-preserved

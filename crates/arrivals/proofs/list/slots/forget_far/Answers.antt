@@ -13,7 +13,7 @@ loop-slot-preserved c =
     let ys = c.loop-slot.slot-items in
     let i = c.loop-slot.slot-index in
     let within : i < length xs = search rules in
-    ap (set ys i) c.keep-near.ensures
+    ap (set ys i) c.keep_near.ensures
     ∙ map_over_more (keep_near 24 c.args.newest) xs ys i (get_or ys i Empty) within c.loop-slot.invariant (get_d_self ys i Empty)
 
 pub returns : goal.returns

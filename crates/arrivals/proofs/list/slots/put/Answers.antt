@@ -4,8 +4,8 @@ use Rattle.arrivals.specs.declared.slot.Slot.TheVariants.{Empty}
 use Rattle.arrivals.specs.SlotLaws.{full, put_times}
 use Rattle.arrivals.proofs.list.slots.put.Goals as goal
 
-pub offset-bounds-slots-i : goal.offset-bounds-slots-i
-offset-bounds-slots-i c =
+pub offset_bounds-slots-i : goal.offset_bounds-slots-i
+offset_bounds-slots-i c =
     let at = c.in-Some.ensures.meaning in
     let long : length c.args.slots ≡ 24 = search rules in
     let low : c.in-Some.i < 24 = omega arith in
@@ -22,8 +22,8 @@ returns-in-Some c k =
     let at = c.in-Some.ensures.meaning in
     put_times c.args.slots c.in-Some.i c.args.number k at.0 (at.1 Empty)
 
-pub returns-in-default : goal.returns-in-default
-returns-in-default c k =
+pub returns-in_default : goal.returns-in_default
+returns-in_default c k =
     let long : length c.args.slots ≡ 24 = search rules in
-    let all = full 0 c.args.slots (sym c.in-default.ensures.first) in
+    let all = full 0 c.args.slots (sym c.in_default.ensures.first) in
     absurd (omega arith)

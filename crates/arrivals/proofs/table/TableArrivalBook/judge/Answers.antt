@@ -22,7 +22,7 @@ returns g c =
     record {
       judges = c.judge.ensures
           ∙ ap (λ x. judged_number kind.depth (place_seen kind.seen x) c.args.number) (get_or_default places place c.index-self-place.result blank_place within)
-          ∙ sym (judged_in _ _ place c.args.number c.if-place-ge-PLACES.false ∙ judged_number_lem _ _ c.args.number c.if-number-gt-LAST-NUMBER.false);
+          ∙ sym (judged_in _ _ place c.args.number c.if-place-ge-PLACES.false ∙ judged_number_lem _ _ c.args.number c.if-number-gt-LAST_NUMBER.false);
       sound = λ place. place_sound kind.depth kind.seen g.met.W.Window.sound _;
       deep = g.met.W.Window.deep;
     }

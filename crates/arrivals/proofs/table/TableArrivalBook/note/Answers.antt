@@ -7,8 +7,8 @@ use Rattle.arrivals.proofs.PlaceLaws.{fresh_place, fresh_number, noted_fresh, no
 use Rattle.arrivals.proofs.HistoryLaws.{unchanged}
 use Rattle.arrivals.proofs.table.TableArrivalBook.note.Goals as goal
 
-pub offset-bounds-self-place : goal.offset-bounds-self-place
-offset-bounds-self-place g c =
+pub offset_bounds-self-place : goal.offset_bounds-self-place
+offset_bounds-self-place g c =
     let here = fresh_place _ _ c.args.place c.args.number (sym c.in-Fresh.ensures.judges) in
     omega arith
 
@@ -46,5 +46,5 @@ returns-in-Fresh g c =
     (c.with.ensures ∙ ap (λ x. with_fresh kind.depth (place_seen kind.seen x) c.args.number) (get_or_default places place c.index-self-place.result blank_place within)
     ∙ sym (noted_fresh _ _ c.args.number here.1))
 
-pub returns-in-default : goal.returns-in-default
-returns-in-default g c = sym (unchanged _ _ c.args.place c.args.number (λ f. c.in-default.not-Fresh (c.judge.ensures.judges ∙ f)))
+pub returns-in_default : goal.returns-in_default
+returns-in_default g c = sym (unchanged _ _ c.args.place c.args.number (λ f. c.in_default.not-Fresh (c.judge.ensures.judges ∙ f)))

@@ -7,4 +7,4 @@ pub returns : goal.returns
 returns c =
     let b = c.args.body.now in
     let least : 12 ≤ length b = search rules in
-    body_reads b _ c.from-le-bytes.result _ _ (omega arith) least c.from-le-bytes.ensures c.if-from-le-bytes-ne-DATAGRAM.false c.from-le-bytes-2.ensures c.from-le-bytes-3.ensures (take_rest b 12)
+    body_reads b _ c.from_le_bytes.result _ _ (omega arith) least c.from_le_bytes.ensures c.if-from_le_bytes-ne-DATAGRAM.false c.from_le_bytes-2.ensures c.from_le_bytes-3.ensures (take_rest b 12)

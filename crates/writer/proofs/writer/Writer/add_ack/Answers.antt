@@ -15,8 +15,8 @@ unfolding added
 asked c =
     let ns = c.args.numbers.now in
     let crv : c.args.crv < 65536 = search rules in
-    let size : Measures c.ack-size-octets.result (length (data_of (ack ns))) = omega (arith, numbers_long ns, c.ack-size-octets.ensures) in
-    item_asked c.args.self.now (added c) _ _ _ c.against.ensures crv size c.ack-within.ensures
+    let size : Measures c.ack_size-octets.result (length (data_of (ack ns))) = omega (arith, numbers_long ns, c.ack_size-octets.ensures) in
+    item_asked c.args.self.now (added c) _ _ _ c.against.ensures crv size c.ack_within.ensures
 
 pub returns-in-Some : goal.returns-in-Some
 unfolding added
@@ -28,4 +28,4 @@ pub returns : goal.returns
 unfolding added
 returns c =
     let a = (goal.at.returns c).After-against in
-    record { same = refl; does = item_added c.args.self.now _ (added a) _ c.in-default.is (asked a) c.write-ack.ensures }
+    record { same = refl; does = item_added c.args.self.now _ (added a) _ c.in_default.is (asked a) c.write_ack.ensures }

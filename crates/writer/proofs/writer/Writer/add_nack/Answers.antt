@@ -16,7 +16,7 @@ unfolding added
 asked c =
     let es = c.args.entries.now in
     let crv : c.args.crv < 65536 = search rules in
-    let size : Measures c.nack-size-octets.result (length (data_of (nack (map entry_says es)))) = omega (arith, ap length (nack_data es), c.nack-size-octets.ensures) in
+    let size : Measures c.nack_size-octets.result (length (data_of (nack (map entry_says es)))) = omega (arith, ap length (nack_data es), c.nack_size-octets.ensures) in
     item_asked c.args.self.now (added c) _ _ _ c.against.ensures crv size (c.nack_within.ensures ∙ sym (nack_within es))
 
 pub returns-in-Some : goal.returns-in-Some
@@ -30,5 +30,5 @@ unfolding added
 returns c =
     let a = (goal.at.returns c).After-against in
     let w = c.args.self.now in
-    let grows = subst (λ x. Grows w.buffer.now w.marks 5 (payload_octets 5 c.args.crv x) c.write-nack.new.buffer c.write-nack.new.marks) (sym (nack_data c.args.entries.now)) c.write-nack.ensures in
-    record { same = refl; does = item_added w _ (added a) _ c.in-default.is (asked a) grows }
+    let grows = subst (λ x. Grows w.buffer.now w.marks 5 (payload_octets 5 c.args.crv x) c.write_nack.new.buffer c.write_nack.new.marks) (sym (nack_data c.args.entries.now)) c.write_nack.ensures in
+    record { same = refl; does = item_added w _ (added a) _ c.in_default.is (asked a) grows }

@@ -8,5 +8,5 @@ returns-in-Some c = record { same = refl; does = search rules; reads = tt; law =
 
 pub returns : goal.returns
 returns c =
-    let does = closed_so c.args.self.now _ c.count.result c.mark.result (sym c.against-closing.ensures ∙ c.in-default.is) c.close.ensures c.count.ensures refl c.mark.ensures in
+    let does = closed_so c.args.self.now _ c.count.result c.mark.result (sym c.against_closing.ensures ∙ c.in_default.is) c.close.ensures c.count.ensures refl c.mark.ensures in
     record { same = refl; does = does; reads = reads_as _ _ _ does; law = what_is_closed_reads }

@@ -3,8 +3,8 @@ use Rattle.std.proofs.Common.{arith}
 use Rattle.arrivals.specs.ListLaws.{list_first, tidy_first}
 use Rattle.arrivals.proofs.list.slots.ListWindowWindow.first.Goals as goal
 
-pub invariant-of-result : goal.invariant-of-result
-invariant-of-result c = (tidy_first 24 c.args.number c.put.result (omega arith) c.requires c.put.ensures, tt)
+pub invariant_of-result : goal.invariant_of-result
+invariant_of-result c = (tidy_first 24 c.args.number c.put.result (omega arith) c.requires c.put.ensures, tt)
 
 pub returns : goal.returns
 returns c = list_first 24 c.args.number c.put.result c.requires c.put.ensures

@@ -7,36 +7,36 @@ use Rattle.arrivals.proofs.list.slots.ListWindowWindow.with.Goals as goal
 pub put-requires : goal.put-requires
 put-requires c =
     let self = c.args.self in
-    rw c.forget-far-kept.ensures (ahead_room 24 self.newest self.slots c.args.number (omega arith) self.ok c.requires.0 (omega arith) (sym c.if-is-ahead.ensures))
+    rw c.forget_far-kept.ensures (ahead_room 24 self.newest self.slots c.args.number (omega arith) self.ok c.requires.0 (omega arith) (sym c.if-is_ahead.ensures))
 
 -- what `put` leaves, over the slots as they were
 moved : (c : goal.After-put) → (k : ℕ) → times k c.put.result ≡ cond (eqb c.args.number k) 1 0 + times k (map (keep_near 24 c.args.number) c.args.self.slots)
-moved c k = c.put.ensures k ∙ ap (λ xs. cond (eqb c.args.number k) 1 0 + times k xs) c.forget-far-kept.ensures
+moved c k = c.put.ensures k ∙ ap (λ xs. cond (eqb c.args.number k) 1 0 + times k xs) c.forget_far-kept.ensures
 
-pub invariant-of-result : goal.invariant-of-result
-invariant-of-result c =
+pub invariant_of-result : goal.invariant_of-result
+invariant_of-result c =
     let self = c.args.self in
-    (tidy_ahead 24 self.newest self.slots c.args.number (omega arith) self.ok c.requires.0 c.put.result (moved c) (omega arith) (sym c.if-is-ahead.ensures), tt)
+    (tidy_ahead 24 self.newest self.slots c.args.number (omega arith) self.ok c.requires.0 c.put.result (moved c) (omega arith) (sym c.if-is_ahead.ensures), tt)
 
-pub returns-then-is-ahead : goal.returns-then-is-ahead
-returns-then-is-ahead c =
+pub returns-then-is_ahead : goal.returns-then-is_ahead
+returns-then-is_ahead c =
     let self = c.args.self in
-    list_moved 24 self.newest self.slots c.args.number (omega arith) self.ok c.requires.0 c.put.result (λ k. c.put.ensures k ∙ ap (λ xs. cond (eqb c.args.number k) 1 0 + times k xs) c.forget-far-kept.ensures) (omega arith) (sym c.if-is-ahead.ensures)
+    list_moved 24 self.newest self.slots c.args.number (omega arith) self.ok c.requires.0 c.put.result (λ k. c.put.ensures k ∙ ap (λ xs. cond (eqb c.args.number k) 1 0 + times k xs) c.forget_far-kept.ensures) (omega arith) (sym c.if-is_ahead.ensures)
 
 pub put-requires-2 : goal.put-requires-2
 put-requires-2 c =
     let self = c.args.self in
-    let absent = absent_behind 24 self.newest self.slots c.args.number (omega arith) self.ok c.requires.0 c.requires.1 (sym c.if-is-ahead.ensures) in
+    let absent = absent_behind 24 self.newest self.slots c.args.number (omega arith) self.ok c.requires.0 c.requires.1 (sym c.if-is_ahead.ensures) in
     behind_room 24 self.newest self.slots c.args.number (omega arith) self.ok c.requires.0 absent.0 absent.1
 
-pub invariant-of-result-2 : goal.invariant-of-result-2
-invariant-of-result-2 c =
+pub invariant_of-result-2 : goal.invariant_of-result-2
+invariant_of-result-2 c =
     let self = c.args.self in
-    let absent = absent_behind 24 self.newest self.slots c.args.number (omega arith) self.ok c.requires.0 c.requires.1 (sym c.if-is-ahead.ensures) in
+    let absent = absent_behind 24 self.newest self.slots c.args.number (omega arith) self.ok c.requires.0 c.requires.1 (sym c.if-is_ahead.ensures) in
     (tidy_put 24 self.newest c.args.number self.slots c.put-2.result self.ok.0 c.requires.0 c.put-2.ensures absent.0 self.ok.2 self.ok.3 absent.1 (inr self.ok.1), tt)
 
 pub returns : goal.returns
 returns c =
     let self = c.args.self in
-    let absent = absent_behind 24 self.newest self.slots c.args.number (omega arith) self.ok c.requires.0 c.requires.1 (sym c.if-is-ahead.ensures) in
-    list_behind 24 self.newest self.slots c.args.number (omega arith) self.ok c.requires.0 c.put-2.result c.put-2.ensures (sym c.if-is-ahead.ensures) absent.0
+    let absent = absent_behind 24 self.newest self.slots c.args.number (omega arith) self.ok c.requires.0 c.requires.1 (sym c.if-is_ahead.ensures) in
+    list_behind 24 self.newest self.slots c.args.number (omega arith) self.ok c.requires.0 c.put-2.result c.put-2.ensures (sym c.if-is_ahead.ensures) absent.0
