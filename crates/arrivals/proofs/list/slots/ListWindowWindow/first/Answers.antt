@@ -4,7 +4,7 @@ use Rattle.arrivals.specs.ListLaws.{list_first, tidy_first}
 use Rattle.arrivals.proofs.list.slots.ListWindowWindow.first.Goals as goal
 
 pub invariant_of-result : goal.invariant_of-result
-invariant_of-result c = (tidy_first 24 c.args.number c.put.result (omega arith) c.requires c.put.ensures, tt)
+invariant_of-result c = record { ok = tidy_first 24 c.args.number c.put.result (omega arith) c.requires c.put.ensures }
 
 pub returns : goal.returns
 returns c = list_first 24 c.args.number c.put.result c.requires c.put.ensures

@@ -16,7 +16,7 @@ moved c k = c.put.ensures k ∙ ap (λ xs. cond (eqb c.args.number k) 1 0 + time
 pub invariant_of-result : goal.invariant_of-result
 invariant_of-result c =
     let self = c.args.self in
-    (tidy_ahead 24 self.newest self.slots c.args.number (omega arith) self.ok c.requires.0 c.put.result (moved c) (omega arith) (sym c.if-is_ahead.ensures), tt)
+    record { ok = tidy_ahead 24 self.newest self.slots c.args.number (omega arith) self.ok c.requires.0 c.put.result (moved c) (omega arith) (sym c.if-is_ahead.ensures) }
 
 pub returns-then-is_ahead : goal.returns-then-is_ahead
 returns-then-is_ahead c =
@@ -33,7 +33,7 @@ pub invariant_of-result-2 : goal.invariant_of-result-2
 invariant_of-result-2 c =
     let self = c.args.self in
     let absent = absent_behind 24 self.newest self.slots c.args.number (omega arith) self.ok c.requires.0 c.requires.1 (sym c.if-is_ahead.ensures) in
-    (tidy_put 24 self.newest c.args.number self.slots c.put-2.result self.ok.0 c.requires.0 c.put-2.ensures absent.0 self.ok.2 self.ok.3 absent.1 (inr self.ok.1), tt)
+    record { ok = tidy_put 24 self.newest c.args.number self.slots c.put-2.result self.ok.0 c.requires.0 c.put-2.ensures absent.0 self.ok.2 self.ok.3 absent.1 (inr self.ok.1) }
 
 pub returns : goal.returns
 returns c =

@@ -13,7 +13,7 @@ overflow_shl-result c =
     rw c.steps_up-lag.ensures (window_near 64 self.newest (bit self.bits) c.args.number (omega arith) (omega arith) self.ok.0 c.requires.0 c.requires.1 (sym c.if-not-is_ahead.ensures))
 
 pub invariant_of-result : goal.invariant_of-result
-invariant_of-result c = ((c.args.self.ok.0, or_odd c.args.self.bits _ c.args.self.ok.1), tt)
+invariant_of-result c = record { ok = (c.args.self.ok.0, or_odd c.args.self.bits _ c.args.self.ok.1) }
 
 pub returns-then-not-is_ahead : goal.returns-then-not-is_ahead
 returns-then-not-is_ahead c =
@@ -33,7 +33,7 @@ returns-then-up-ge-DEPTH c =
     (λ j below up. absurd (omega (arith, c.steps_up-up.ensures)))
 
 pub invariant_of-result-2 : goal.invariant_of-result-2
-invariant_of-result-2 c = ((c.requires.0, or_odd_right _ 1 refl), tt)
+invariant_of-result-2 c = record { ok = (c.requires.0, or_odd_right _ 1 refl) }
 
 pub returns : goal.returns
 returns c =
