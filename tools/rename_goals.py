@@ -43,6 +43,9 @@ def names_of(entry):
         if place[2]:
             today.add(place[2][1])
     today |= set(entry.get("places_by_name", []))
+    for arm in entry.get("arms", []):
+        if arm:
+            today.add(arm[0])
     for pair in entry.get("loops", []):
         today.add(pair[0][1])
         today.add("invariant-" + pair[0][1])
@@ -64,6 +67,7 @@ def main():
         by_flat = {}
         for n in today:
             by_flat.setdefault(flat(n), set()).add(n)
+        idents = sorted({part for n in today for part in n.split("-") if "_" in part and part not in ("in_ok", "in_err", "in_default")}, key=len, reverse=True)
         for p in glob.glob(os.path.join(glob.escape(folder), "*.antt")):
             with open(p, encoding="utf-8") as f:
                 text = f.read()
@@ -77,6 +81,10 @@ def main():
                 fits = by_flat.get(flat(w), set())
                 if len(fits) == 1:
                     return next(iter(fits))
+                for ident in idents:
+                    w = re.sub(r"(?<![^-])" + ident.replace("_", "-") + r"(?![^-])", ident, w)
+                if w in today or any(i in w for i in idents):
+                    return w
                 if re.match(r"(returns|loop|if|in|invariant|decreases|overflow|After|At|Then|Else|In)-", w):
                     left.add(w)
                 return w

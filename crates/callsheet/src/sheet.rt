@@ -80,7 +80,7 @@ fn advance(
         before: *before,
     };
     let more = add_window(&mut records, last, text, front)?;
-    let rest = Vec::from_slice(unread.allocator(), records.rest)?;
+    let rest = Vec::from_slice(*unread.allocator(), records.rest)?;
     *before = records.before;
     *unread = rest;
     Ok(more)

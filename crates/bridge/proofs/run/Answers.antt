@@ -14,8 +14,8 @@ loop-i-preserved g c =
     let in-places : i < length places = search rules in
     let in-numbers : i < length numbers = search rules in
     let in_buffer : i < length buffer = search rules in
-    turned kind.depth (kind.seen c.loop-i.book) (kind.seen c.judge-and-note.new.book) places numbers buffer i c.code-of.result
-    in-places in-numbers in_buffer c.judge-and-note.ensures.notes (c.code-of.ensures ∙ ap code c.judge-and-note.ensures.judges)
+    turned kind.depth (kind.seen c.loop-i.book) (kind.seen c.judge_and_note.new.book) places numbers buffer i c.code_of.result
+    in-places in-numbers in_buffer c.judge_and_note.ensures.notes (c.code_of.ensures ∙ ap code c.judge_and_note.ensures.judges)
     ∙ c.loop-i.invariant
 
 pub returns : goal.returns

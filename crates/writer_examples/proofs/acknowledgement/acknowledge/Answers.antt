@@ -18,6 +18,6 @@ returns c =
     let w2 = c.add_ack.new.self in
     let w3 = c.close.new.self in
     let r1 = run_open c.args.number false w0 w1 c.in_ok-open.ensures.does in
-    let r2 = run_add (item (under_no_call (ack (c.args.of ∷ [])))) w1 w2 r1 c.in_ok-add-ack.ensures.does in
+    let r2 = run_add (item (under_no_call (ack (c.args.of ∷ [])))) w1 w2 r1 c.in_ok-add_ack.ensures.does in
     let r3 = run_close c.in_ok-size.size w2 w3 r2 c.in_ok-size.ensures.does in
     search rules
