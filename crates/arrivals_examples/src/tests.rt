@@ -23,9 +23,9 @@ fn overtaken<B: ArrivalBook>(rt: &impl Abort, book: &mut B) {
 
 #[test]
 fn overtaken_copies(rt: HostRuntime) {
-    let mut mask: MaskBook = <arrivals::Table<_> as ArrivalBook>::new();
+    let mut mask = MaskBook::new();
     overtaken(&rt, &mut mask);
-    let mut list: ListBook = <arrivals::Table<_> as ArrivalBook>::new();
+    let mut list = ListBook::new();
     overtaken(&rt, &mut list);
 }
 
@@ -43,9 +43,9 @@ fn wrapped<B: ArrivalBook>(rt: &impl Abort, book: &mut B) {
 
 #[test]
 fn wrap_to_zero(rt: HostRuntime) {
-    let mut mask: MaskBook = <arrivals::Table<_> as ArrivalBook>::new();
+    let mut mask = MaskBook::new();
     wrapped(&rt, &mut mask);
-    let mut list: ListBook = <arrivals::Table<_> as ArrivalBook>::new();
+    let mut list = ListBook::new();
     wrapped(&rt, &mut list);
 }
 
@@ -62,9 +62,9 @@ fn depth_edge<B: ArrivalBook>(rt: &impl Abort, book: &mut B, last_within: u32, p
 
 #[test]
 fn edges_of_both_depths(rt: HostRuntime) {
-    let mut mask: MaskBook = <arrivals::Table<_> as ArrivalBook>::new();
+    let mut mask = MaskBook::new();
     depth_edge(&rt, &mut mask, 37, 36);
-    let mut list: ListBook = <arrivals::Table<_> as ArrivalBook>::new();
+    let mut list = ListBook::new();
     depth_edge(&rt, &mut list, 77, 76);
 }
 
@@ -79,9 +79,9 @@ fn half_edge<B: ArrivalBook>(rt: &impl Abort, book: &mut B) {
 
 #[test]
 fn half_the_numbers(rt: HostRuntime) {
-    let mut mask: MaskBook = <arrivals::Table<_> as ArrivalBook>::new();
+    let mut mask = MaskBook::new();
     half_edge(&rt, &mut mask);
-    let mut list: ListBook = <arrivals::Table<_> as ArrivalBook>::new();
+    let mut list = ListBook::new();
     half_edge(&rt, &mut list);
 }
 
@@ -100,8 +100,8 @@ fn ranges<B: ArrivalBook>(rt: &impl Abort, book: &mut B) {
 
 #[test]
 fn places_and_numbers_out_of_range(rt: HostRuntime) {
-    let mut mask: MaskBook = <arrivals::Table<_> as ArrivalBook>::new();
+    let mut mask = MaskBook::new();
     ranges(&rt, &mut mask);
-    let mut list: ListBook = <arrivals::Table<_> as ArrivalBook>::new();
+    let mut list = ListBook::new();
     ranges(&rt, &mut list);
 }

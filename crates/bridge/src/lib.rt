@@ -38,7 +38,7 @@ pub extern "C" fn arrivals_mask_run(
 ) -> usize
     ensures { Ran 64 new_book places.now numbers.now judgements.old result judgements.new }
 {
-    let mut book: MaskBook = <arrivals::Table<_> as ArrivalBook>::new();
+    let mut book = MaskBook::new();
     run(&mut book, places, numbers, judgements)
 }
 
@@ -51,6 +51,6 @@ pub extern "C" fn arrivals_list_run(
 ) -> usize
     ensures { Ran 24 new_book places.now numbers.now judgements.old result judgements.new }
 {
-    let mut book: ListBook = <arrivals::Table<_> as ArrivalBook>::new();
+    let mut book = ListBook::new();
     run(&mut book, places, numbers, judgements)
 }

@@ -5,15 +5,15 @@ use Rattle.callsheet.specs.Windows.{window}
 use Rattle.callsheet.proofs.Steps.{few, counted, adds_record, adds_nothing, adds_stop, waits}
 use Rattle.callsheet.proofs.window.add_next.Goals as goal
 
-pub returns-in_ok-add_record : goal.returns-in_ok-add_record
-returns-in_ok-add_record c =
+pub returns-in_ok-add_record-in-Ok : goal.returns-in_ok-add_record-in-Ok
+returns-in_ok-add_record-in-Ok c =
     let p = place_says c.args.records.now in
     let q = place_says c.next.new.self in
     let s = record_says c.in-Some.record in
     let e : Ok (Some s) ≡ next_at p = rw c.in-Some.is at c.in-Ok.ensures.gives in
     let m = c.next.ensures.moves in
     record {
-      adds = adds_record c.args.last _ _ p q s _ e m refl c.in_ok-add_record.ensures;
+      adds = adds_record c.args.last _ _ p q s _ e m refl c.in_ok-add_record-in-Ok.ensures;
       moves = record { less = few p s e; next = counted p q s e m };
     }
 
@@ -33,9 +33,9 @@ returns-in_default c =
     let e : Ok None ≡ next_at p = rw c.in_default.is at c.in-Ok.ensures.gives in
     record { adds = adds_nothing c.args.last t p q e c.next.ensures.moves ∙ ap (λ b. window t (not b) q) c.if-last.false; moves = tt }
 
-pub returns-in_ok-add_stop : goal.returns-in_ok-add_stop
-returns-in_ok-add_stop c = record {
-  adds = adds_stop c.args.last _ _ (place_says c.args.records.now) (place_says c.next.new.self) _ _ c.is_turnable-turnable.ensures c.else-not-last.either c.in-Err.ensures.gives c.next.ensures.moves c.in_ok-add_stop.ensures;
+pub returns-in_ok-add_stop-in-Err : goal.returns-in_ok-add_stop-in-Err
+returns-in_ok-add_stop-in-Err c = record {
+  adds = adds_stop c.args.last _ _ (place_says c.args.records.now) (place_says c.next.new.self) _ _ c.is_turnable-turnable.ensures c.else-not-last.either c.in-Err.ensures.gives c.next.ensures.moves c.in_ok-add_stop-in-Err.ensures;
   moves = tt;
 }
 
