@@ -8,14 +8,14 @@ fn two_records(rt: HostRuntime) -> Result<(), Fail> {
     let sheet = sheet_of(rt.alloc(), &callsheet::two_records())?;
     let expected =
         b"rec sec from num type call len\n1 60 10.0.0.7:1720 5 1 1 2\n2 61 10.0.0.7:1720 fault 21 3\n";
-    assert_eq!(rt; sheet.as_slice(), expected);
+    assert_eq!(rt; sheet.as_slice(), expected.as_slice());
     Ok(())
 }
 
 #[test]
 fn an_empty_capture(rt: HostRuntime) -> Result<(), Fail> {
     let sheet = sheet_of(rt.alloc(), &[])?;
-    assert_eq!(rt; sheet.as_slice(), b"rec sec from num type call len\n");
+    assert_eq!(rt; sheet.as_slice(), b"rec sec from num type call len\n".as_slice());
     Ok(())
 }
 
@@ -24,7 +24,7 @@ fn one_octet(rt: HostRuntime) -> Result<(), Fail> {
     let sheet = sheet_of(rt.alloc(), &[0x18])?;
     assert_eq!(rt;
         sheet.as_slice(),
-        b"rec sec from num type call len\nstop 40 1\n"
+        b"rec sec from num type call len\nstop 40 1\n".as_slice()
     );
     Ok(())
 }
@@ -35,7 +35,7 @@ fn a_record_that_breaks_off(rt: HostRuntime) -> Result<(), Fail> {
     let sheet = sheet_of(rt.alloc(), &octets[0..42])?;
     assert_eq!(rt;
         sheet.as_slice(),
-        b"rec sec from num type call len\n1 60 10.0.0.7:1720 5 1 1 2\nstop 40 2\n"
+        b"rec sec from num type call len\n1 60 10.0.0.7:1720 5 1 1 2\nstop 40 2\n".as_slice()
     );
     Ok(())
 }
@@ -54,7 +54,7 @@ fn the_largest_fields(rt: HostRuntime) -> Result<(), Fail> {
     let lines = record_lines(rt.alloc(), 999_999, &record)?;
     let expected =
         b"999999 4294967295 255.255.255.255:65535 16777215 127 65535 0\n999999 4294967295 255.255.255.255:65535 16777215 0 0 1\n";
-    assert_eq!(rt; lines.as_slice(), expected);
+    assert_eq!(rt; lines.as_slice(), expected.as_slice());
     Ok(())
 }
 
@@ -67,7 +67,7 @@ fn an_empty_datagram(rt: HostRuntime) -> Result<(), Fail> {
         datagram: &[],
     };
     let lines = record_lines(rt.alloc(), 1, &record)?;
-    assert_eq!(rt; lines.as_slice(), b"1 0 0.0.0.0:0 fault 21 0\n");
+    assert_eq!(rt; lines.as_slice(), b"1 0 0.0.0.0:0 fault 21 0\n".as_slice());
     Ok(())
 }
 
@@ -78,6 +78,6 @@ fn one_record_too_many(rt: HostRuntime) -> Result<(), Fail> {
         record: 1_000_000,
     };
     let line = stop_line(rt.alloc(), stop)?;
-    assert_eq!(rt; line.as_slice(), b"stop 42 1000000\n");
+    assert_eq!(rt; line.as_slice(), b"stop 42 1000000\n".as_slice());
     Ok(())
 }

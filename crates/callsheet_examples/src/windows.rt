@@ -42,7 +42,7 @@ fn a_stop_in_the_first_window(rt: HostRuntime) -> Result<(), Fail> {
     let sheet = in_two(rt.alloc(), &octets[0..30], &octets[30..])?;
     assert_eq!(rt;
         sheet.as_slice(),
-        b"rec sec from num type call len\nstop 41 1\n"
+        b"rec sec from num type call len\nstop 41 1\n".as_slice()
     );
     Ok(())
 }
@@ -53,11 +53,11 @@ fn what_is_not_whole_waits(rt: HostRuntime) -> Result<(), Fail> {
     let mut sheet = Sheet::begin(rt.alloc())?;
     sheet.unread.extend_from_slice(&octets[0..30])?;
     assert!(rt; sheet.read_window(false)?);
-    assert_eq!(rt; sheet.text(), b"1 60 10.0.0.7:1720 5 1 1 2\n");
+    assert_eq!(rt; sheet.text(), b"1 60 10.0.0.7:1720 5 1 1 2\n".as_slice());
     assert_eq!(rt; sheet.unread.len(), 4);
     assert!(rt; sheet.read_window(false)?);
     assert_eq!(rt; sheet.text().len(), 0);
     assert!(rt; !sheet.read_window(true)?);
-    assert_eq!(rt; sheet.text(), b"stop 40 2\n");
+    assert_eq!(rt; sheet.text(), b"stop 40 2\n".as_slice());
     Ok(())
 }

@@ -61,7 +61,7 @@ fn the_header_at_its_limits(rt: HostRuntime) -> Result<(), Fail> {
     let payload = only_payload(&octets)?;
     assert_eq!(rt; payload.crv, 0x8001);
     assert_eq!(rt; payload.content.kind(), 1);
-    assert_eq!(rt; payload.data, b"\xAB\xCD");
+    assert_eq!(rt; payload.data, b"\xAB\xCD".as_slice());
     Ok(())
 }
 
@@ -116,7 +116,7 @@ fn the_first_reason_for_a_number(rt: HostRuntime) -> Result<(), Fail> {
         return Err(Fail::new("no entry"));
     };
     assert_eq!(rt; entry.number, 5);
-    assert_eq!(rt; entry.data, b"\x09");
+    assert_eq!(rt; entry.data, b"\x09".as_slice());
     assert_eq!(rt; nack.reason_for(5), Some(0x0304));
     Ok(())
 }
@@ -129,7 +129,7 @@ fn a_cookie_or_none(rt: HostRuntime) -> Result<(), Fail> {
     };
     assert_eq!(rt; alive.validity, 600);
     assert!(rt; alive.wants_reply);
-    assert_eq!(rt; alive.cookie.ok_or("no cookie")?, b"ab");
+    assert_eq!(rt; alive.cookie.ok_or("no cookie")?, b"ab".as_slice());
     let octets = [0, 0, 0, 0, 0, 6, 0, 0, 0, 4, 0, 0, 0, 0];
     let Content::IAmAlive(alive) = only_payload(&octets)?.content else {
         return Err(Fail::new("no I-Am-Alive"));
@@ -145,8 +145,8 @@ fn an_oid_and_what_follows_it(rt: HostRuntime) -> Result<(), Fail> {
     let Content::NonStandard(nonstandard) = only_payload(&octets)?.content else {
         return Err(Fail::new("not non-standard"));
     };
-    assert_eq!(rt; nonstandard.oid, b"\x2B\x0C\x02");
-    assert_eq!(rt; nonstandard.free, b"x");
+    assert_eq!(rt; nonstandard.oid, b"\x2B\x0C\x02".as_slice());
+    assert_eq!(rt; nonstandard.free, b"x".as_slice());
     Ok(())
 }
 
@@ -159,6 +159,6 @@ fn an_unsupported_type(rt: HostRuntime) -> Result<(), Fail> {
         return Err(Fail::new("supported"));
     };
     assert_eq!(rt; kind, 127);
-    assert_eq!(rt; data, b"\x2A");
+    assert_eq!(rt; data, b"\x2A".as_slice());
     Ok(())
 }

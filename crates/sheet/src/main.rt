@@ -4,6 +4,7 @@ mod failure;
 use callsheet::Sheet;
 use failure::Failure;
 use std::io::{Read, Write};
+use std::process::ExitCode;
 
 // Octets that are read at a time. What is in memory does not grow with the capture.
 const WINDOW: u64 = 65536;
@@ -39,10 +40,12 @@ fn print_sheet(rt: &HostRuntime) -> Result<(), Failure> {
     Ok(())
 }
 
-fn main(rt: HostRuntime) -> Result<(), Failure> {
-    if let Err(failure) = print_sheet(&rt) {
-        let _ = eprintln!(rt; "sheet: {failure}");
-        return Err(failure);
+fn main(rt: HostRuntime) -> ExitCode {
+    match print_sheet(&rt) {
+        Ok(()) => ExitCode::SUCCESS,
+        Err(failure) => {
+            let _ = eprintln!(rt; "sheet: {failure}");
+            ExitCode::FAILURE
+        }
     }
-    Ok(())
 }
