@@ -1,4 +1,6 @@
 // Arrival books: for each of 32 places, which numbers of 24 bits have come, remembered up to a depth behind the newest.
+#![tactic(auto)]
+
 mod book;
 mod client;
 mod laws;

@@ -1,4 +1,6 @@
 // Worked examples of arrival books: the edges as theorems, and histories as tests on both books.
+#![tactic(auto)]
+
 ghost use Rattle.arrivals_examples.specs.Edges.{HalfEdge, DepthEdge};
 
 // The last numbers that are still fresh to a place that has noted one number.

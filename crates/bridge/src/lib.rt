@@ -1,4 +1,6 @@
 // Arrival books for Rust and C to link: runs of judge-and-note from a new book, over slices of numbers.
+#![tactic(auto)]
+
 ghost use Rattle.std.specs.Prelude.{◌≡◌};
 ghost use Rattle.arrivals.specs.Meaning.{new_book};
 ghost use Rattle.bridge.specs.Runs.{Ran, code};

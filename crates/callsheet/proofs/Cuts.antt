@@ -4,7 +4,7 @@ use Rattle.capture.specs.declared.stop.Stop.{Stop}
 use Rattle.capture.specs.Layout.{record_end}
 use Rattle.capture.specs.Records.{Sent, Place, place_of, next_at, place_after}
 use Rattle.capture.specs.Stops.{turnable}
-use Rattle.callsheet.specs.Laws.{joined, WindowsMakeTheSheet, LessThanARecordWaits, LawsOfWindows}
+use Rattle.callsheet.specs.Laws.{joined, WindowsMakeTheSheet, LawsOfWindows}
 use Rattle.callsheet.specs.Text.{Added, record_text, stop_text, column_line, sheet_text}
 use Rattle.callsheet.specs.Windows.{Window, window, preceded, window_at, lines_over}
 use Rattle.callsheet.proofs.Following.{followed, record_follows, stop_follows, place_follows, no_tail, none_short, turnable_short}

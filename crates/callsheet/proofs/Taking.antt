@@ -1,5 +1,5 @@
 -- The texts of records that are taken one after another make the sheet. Assumes nothing.
-use Rattle.std.proofs.Common.{◌≡◌, ℕ, ◌+◌, List, [], ◌∷◌, ◌++◌, Some, None, Ok, Err, sym, refl, ap, ◌∙◌, append-nil}
+use Rattle.std.proofs.Common.{◌≡◌, ℕ, ◌+◌, List, ◌++◌, sym, refl, ap, ◌∙◌, append-nil}
 use Rattle.capture.specs.Records.{Place, place_of, place_after}
 use Rattle.callsheet.specs.Laws.{joined, Taken, over, stopped, further, RecordsMakeTheSheet}
 use Rattle.callsheet.specs.Text.{record_text, stop_text, column_line}

@@ -1,4 +1,6 @@
 // Makes the call sheet of a capture: its text, whole, record by record, or window by window.
+#![tactic(auto)]
+
 mod example;
 mod lines;
 mod number;

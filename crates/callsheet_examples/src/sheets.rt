@@ -15,7 +15,10 @@ fn two_records(rt: HostRuntime) -> Result<(), Fail> {
 #[test]
 fn an_empty_capture(rt: HostRuntime) -> Result<(), Fail> {
     let sheet = sheet_of(rt.alloc(), &[])?;
-    assert_eq!(rt; sheet.as_slice(), b"rec sec from num type call len\n".as_slice());
+    assert_eq!(rt;
+        sheet.as_slice(),
+        b"rec sec from num type call len\n".as_slice()
+    );
     Ok(())
 }
 

@@ -1,4 +1,6 @@
 // Reads capture files: records of a datagram, its sender and its time.
+#![tactic(auto)]
+
 mod record;
 mod records;
 mod stop;

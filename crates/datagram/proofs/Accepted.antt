@@ -1,11 +1,11 @@
 -- A datagram that passes every question: what it is read as, and how its payloads lie. Assumes nothing.
-use Rattle.std.proofs.Common.{◌≡◌, ℕ, zero, suc, ◌+◌, ◌≤◌, Bool, true, false, cond, not, ◌||◌, eqb, leb, ◌⊎◌, List, [], ◌∷◌, length, take, drop, Ok, Err, Result, sym, refl, ap, ◌∙◌, subst, inl, inr, arith}
+use Rattle.std.proofs.Common.{◌≡◌, ℕ, zero, suc, ◌+◌, ◌≤◌, Bool, true, false, cond, not, ◌||◌, eqb, leb, ◌⊎◌, List, [], ◌∷◌, length, take, drop, Ok, Result, sym, refl, ap, ◌∙◌, subst, inl, inr, arith}
 use Rattle.std.proofs.lemmas.List.{length-drop, length-take-le, drop-drop}
 use Rattle.std.proofs.lemmas.Bool.{leb-true, eqb-true}
 use Rattle.datagram.specs.declared.fault.Fault.{Fault}
 use Rattle.datagram.specs.declared.header.Header.{Header}
-use Rattle.datagram.specs.Datagrams.{Datagram, header_fields, header_of, payloads_from, some_deserves, datagram_of, read}
-use Rattle.datagram.specs.Laws.{Lies, EndToEnd, Accepted, PayloadsLieEndToEnd}
+use Rattle.datagram.specs.Datagrams.{header_fields, header_of, payloads_from, some_deserves, datagram_of, read}
+use Rattle.datagram.specs.Laws.{Lies, EndToEnd, PayloadsLieEndToEnd}
 use Rattle.datagram.specs.Layout.{version, type_field, length_field, payload_data}
 use Rattle.datagram.specs.Payloads.{Payload, past, payload_at}
 use Rattle.datagram.specs.Places.{sound_from}

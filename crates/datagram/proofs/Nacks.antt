@@ -1,11 +1,11 @@
 -- The entries of a Nack, one by one. Assumes nothing.
-use Rattle.std.proofs.Common.{◌≡◌, ℕ, zero, suc, ◌-◌, ◌<◌, ◌≤◌, Bool, true, false, cond, leb, List, [], ◌∷◌, length, take, drop, Some, None, Ok, Err, Option, sym, refl, ap, ◌∙◌, arith}
+use Rattle.std.proofs.Common.{◌≡◌, ℕ, zero, suc, ◌-◌, ◌<◌, ◌≤◌, Bool, true, false, cond, leb, List, length, take, drop, Some, Ok, Err, Option, refl, ap, ◌∙◌, arith}
 use Rattle.std.proofs.lemmas.List.{drop-drop}
 use Rattle.std.proofs.lemmas.Bool.{le-leb, eq-eqb, ne_eqb}
 use Rattle.datagram.specs.Layout.{octet, be16, be24, entry_end, inner_count}
 use Rattle.datagram.specs.Lists.{Takes}
-use Rattle.datagram.specs.Places.{Entries, first_in, first_entry, without, after_first}
-use Rattle.datagram.specs.Structures.{Entry, entry_of, entries, meet_end, miscounts, nack_of, reason_for}
+use Rattle.datagram.specs.Places.{Entries, first_entry, without, after_first}
+use Rattle.datagram.specs.Structures.{Entry, entries, meet_end, miscounts, nack_of, reason_for}
 use Rattle.datagram.proofs.Taking.{taken}
 
 abbrev pub standing : ℕ → List ℕ → Entries

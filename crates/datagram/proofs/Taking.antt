@@ -1,7 +1,7 @@
 -- Taking the elements of a list one by one. Assumes nothing.
 use Rattle.std.proofs.Common.{◌≡◌, ℕ, ◌<◌, List, [], ◌∷◌, length, IfSome, Some, None, Option, refl, arith}
 use Rattle.std.specs.Option.{option_map}
-use Rattle.datagram.specs.Lists.{first, later, Takes}
+use Rattle.datagram.specs.Lists.{Takes}
 
 -- where an element was taken, fewer are left
 fewer : {X : Type 0} (x : X) (xs ys : List X) → Takes xs (Some x) ys → length ys < length xs

@@ -1,5 +1,5 @@
 -- One payload of a datagram, or the question that it fails. Assumes nothing.
-use Rattle.std.specs.Prelude.{ℕ, ◌+◌, Bool, true, false, List, [], ◌∷◌, length, Result, nat_le}
+use Rattle.std.specs.Prelude.{ℕ, ◌+◌, Bool, true, false, List, length, Result, nat_le}
 use Rattle.datagram.specs.declared.fault.Question.TheVariants.{HoldsPayloadHeader, HoldsPayloadData}
 use Rattle.datagram.specs.declared.fault.Layer.TheVariants as layer
 use Rattle.datagram.specs.declared.fault.Fault.{Fault}

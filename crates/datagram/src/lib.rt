@@ -1,4 +1,6 @@
 // Reads H.323 Annex E datagrams: a header, then payloads with their structures, as views of the caller's octets.
+#![tactic(auto)]
+
 mod content;
 mod datagram;
 mod example;

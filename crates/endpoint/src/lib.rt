@@ -1,4 +1,6 @@
 // One endpoint of H.323 Annex E signalling: what it knows, what it answers, and the definitions that its calls will be held to.
+#![tactic(auto)]
+
 mod answer;
 mod example;
 mod laws;

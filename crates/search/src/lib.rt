@@ -1,4 +1,6 @@
 // The one search: the first record that is kept under a key.
+#![tactic(auto)]
+
 ghost use Rattle.std.specs.Prelude.{◌≡◌, Bool};
 ghost use Rattle.search.specs.First.{first_under, FirstOrNone};
 

@@ -1,4 +1,6 @@
 // The one search at a second kind of record: who is held under an address and a port.
+#![tactic(auto)]
+
 ghost use Rattle.std.specs.Prelude.{◌≡◌};
 ghost use Rattle.search.specs.First.{first_under};
 ghost use Rattle.search_examples.specs.Peers.{same_peer, held_under};

@@ -1,4 +1,6 @@
 // Prints the call sheet of the capture on standard input.
+#![tactic(auto)]
+
 mod failure;
 
 use callsheet::Sheet;

@@ -1,5 +1,5 @@
 -- A list of calls that is run to its end is a proper one, so the law holds of its log.
-use Rattle.std.proofs.Common.{◌≡◌, ℕ, ◌<◌, ◌≤◌, Bool, true, false, cond, not, eqb, ltb, List, [], ◌∷◌, length, Some, None, Ok, Err, Option, Result, sym, refl, ap, ◌∙◌, subst, inl, inr, arith, eqb-true}
+use Rattle.std.proofs.Common.{◌≡◌, ℕ, ◌<◌, ◌≤◌, Bool, true, false, cond, not, eqb, ltb, List, [], ◌∷◌, length, Some, None, Ok, Err, Option, Result, sym, refl, subst, inl, inr, arith, eqb-true}
 use Rattle.std.proofs.lemmas.Bool.{false≢true, ltb-true}
 use Rattle.datagram.specs.Results.{map_ok, and_then, ask}
 use Rattle.endpoint.specs.Calls as calls
@@ -7,9 +7,9 @@ use Rattle.endpoint.specs.Ends.{same_peer}
 use Rattle.endpoint.specs.Timing.{numbers_left}
 use Rattle.trunk.specs.declared.log.Error.{Error}
 use Rattle.trunk.specs.declared.log.Error.TheVariants.{OthersAddress, NoSuchDatagram}
-use Rattle.trunk.specs.Acts.{Octets, Side, left, right, other, same, Act, Deed, History, Wrote, wrote}
+use Rattle.trunk.specs.Acts.{Octets, Side, left, right, other, same, History, Wrote, wrote}
 use Rattle.trunk.specs.Law.{Law}
-use Rattle.trunk.specs.Two.{Setting, Sound, Turn, World, history, turned, run, newly, AllowedCall, Proper}
+use Rattle.trunk.specs.Two.{Setting, Turn, World, history, turned, run, newly, AllowedCall, Proper}
 use Rattle.trunk.specs.Views.{Order, enrol, send, tick, arrive, hear, Ask}
 use Rattle.trunk.specs.Runs.{wrote_at, turn, or_else, turn_for, played, ran}
 use Rattle.trunk.proofs.Theorem.{keep_the_law}

@@ -1,7 +1,7 @@
 -- Each part of the law refutes its bad history.
-use Rattle.std.proofs.Common.{◌≡◌, ℕ, ◌<◌, ◌≤◌, Bool, true, false, ◌⊎◌, List, [], ◌∷◌, get_or, None, Ok, sym, refl, ap, ◌∙◌, inl, inr, arith, lit<, lit≤}
+use Rattle.std.proofs.Common.{◌≡◌, ℕ, ◌<◌, ◌≤◌, true, ◌⊎◌, List, [], ◌∷◌, get_or, None, Ok, sym, refl, ap, ◌∙◌, inl, inr, arith, lit<, lit≤}
 use Rattle.std.proofs.lemmas.Bool.{false≢true, true≢false}
-use Rattle.trunk.specs.Acts.{Octets, Said, said_in, Outcome, unanswered, Side, left, right, let_be, Act, sends, arrives, History, Does, Asks, Belongs, own, first, next, HandsOut, Ends, by_tick, by_arrival, start, then}
+use Rattle.trunk.specs.Acts.{Octets, Said, said_in, Outcome, unanswered, left, right, let_be, Act, sends, arrives, History, Does, Asks, Belongs, own, first, next, HandsOut, Ends, by_tick, by_arrival, start, then}
 use Rattle.trunk.specs.Law.{Once, Whole, After, InOrder, Few, Single, Settled}
 use Rattle.trunk.specs.Refuted.{body_with, said, datagram_with, handed_out_twice, never_sent, acknowledged_first, handed_out_in_reverse, five_times_on_the_line, given_up_twice, left_outstanding, EachPartRefutes}
 use Rattle.trunk.proofs.Both.{is_send, is_left}

@@ -1,5 +1,5 @@
 -- Two ends in code keep step with the definitions: what they know and report is what a world of the definitions holds.
-use Rattle.std.proofs.Common.{◌≡◌, ℕ, zero, suc, ◌+◌, ◌<◌, Bool, true, false, cond, not, ◌&&◌, eqb, List, [], ◌∷◌, ◌++◌, length, get_or, Some, None, Ok, Err, Option, Result, sym, refl, ap, ◌∙◌, subst, arith, length-append}
+use Rattle.std.proofs.Common.{◌≡◌, ℕ, zero, suc, ◌<◌, Bool, true, false, cond, not, ◌&&◌, eqb, List, [], ◌∷◌, ◌++◌, length, get_or, Some, None, Ok, Err, Option, Result, sym, refl, ap, ◌∙◌, arith, length-append}
 use Rattle.std.proofs.lemmas.Bool.Decides.{nat_tests}
 use Rattle.datagram.specs.Results.{map_ok, ask}
 use Rattle.endpoint.specs.declared.answer.Sent.{Sent}
@@ -17,8 +17,8 @@ use Rattle.endpoint.specs.Ticks.{tick_within}
 use Rattle.endpoint.specs.Timing.{numbers_left}
 use Rattle.trunk.specs.declared.log.Error.{Error}
 use Rattle.trunk.specs.declared.log.Error.TheVariants.{NoSuchDatagram, OthersAddress}
-use Rattle.trunk.specs.Acts.{Octets, Side, left, right, other, same, Act, aside, History, wrote}
-use Rattle.trunk.specs.Two.{Setting, Turn, Entry, Log, World, act_of, as_send, as_ticked, as_tick, as_arrived, as_arrival, reply_in, gave, is_there, place_after, place_for, deed_of, history, step_of, entry_of, turned, newly, with_end}
+use Rattle.trunk.specs.Acts.{Octets, Side, left, right, other, same, Act, aside, wrote}
+use Rattle.trunk.specs.Two.{Setting, Turn, Log, World, act_of, as_send, as_tick, as_arrival, reply_in, gave, is_there, place_after, place_for, deed_of, history, step_of, entry_of, turned, newly}
 use Rattle.trunk.specs.Views.{Order, enrol, send, tick, arrive, hear, Report}
 use Rattle.trunk.specs.Runs.{wrote_at, turn, or_else, turn_for, is_aside, tell, report_of, told}
 use Rattle.trunk.specs.Parties.{writes, line_of, line_at, call_for, from_of, reported, Enters}

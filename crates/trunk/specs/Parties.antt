@@ -1,7 +1,6 @@
 -- What a call does at one of the two ends: the steps of the code, by the definitions of the whole. Assumes nothing.
 use Rattle.std.specs.Prelude.{◌≡◌, ℕ, zero, suc, Bool, true, false, cond, not, ◌&&◌, List, [], ◌∷◌, length, Some, None, Ok, Err, Option, Result}
 use Rattle.datagram.specs.Results.{map_ok, ask}
-use Rattle.endpoint.specs.declared.answer.Sent.{Sent}
 use Rattle.endpoint.specs.declared.answer.Ticked.{Ticked}
 use Rattle.endpoint.specs.declared.answer.Ticked.TheVariants.{Resent, Unanswered, Silent, KeptAlive, Idle}
 use Rattle.endpoint.specs.declared.peer.Peer.{Peer}

@@ -1,7 +1,6 @@
 -- A list of calls run on two new ends: the log that comes of it, or why one of the calls does not belong. Assumes nothing.
 use Rattle.std.specs.Prelude.{◌≡◌, ℕ, Bool, true, false, cond, not, List, [], ◌∷◌, ◌++◌, map, length, Some, None, Ok, Err, Option, Result, ◌==◌, nat_lt}
 use Rattle.datagram.specs.Results.{map_ok, and_then, ask}
-use Rattle.endpoint.specs.Arrives as arriving
 use Rattle.endpoint.specs.Calls as calls
 use Rattle.endpoint.specs.Ends.{same_peer}
 use Rattle.endpoint.specs.Timing.{numbers_left}
@@ -12,7 +11,7 @@ use Rattle.trunk.specs.declared.setting.Side.TheVariants.{Left, Right}
 use Rattle.trunk.specs.Acts.{Octets, said_by, Side, left, right, other, same, Act, aside, sends, ticks, arrives, History, wrote}
 use Rattle.trunk.specs.Law.{Law}
 use Rattle.trunk.specs.Two.{Setting, Turn, Entry, Log, World, deed_of, history, turned, newly}
-use Rattle.trunk.specs.Views.{Order, enrol, send, tick, arrive, hear, Ask, Arrival, Answer, enrolled, sent, ticked, arrived, Report}
+use Rattle.trunk.specs.Views.{Order, enrol, send, tick, arrive, hear, Ask, Answer, enrolled, sent, ticked, arrived, Report}
 
 -- the setting that the code is given, over books of these depths, with the standing question 12
 abbrev pub by_side : {X : Type 0} → X → X → Side → X

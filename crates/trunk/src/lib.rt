@@ -1,4 +1,6 @@
 // Two endpoints and the line between them: the law that every list of calls on them keeps.
+#![tactic(auto)]
+
 ghost use Rattle.trunk.specs.Changes.{ChangesKeepTheLaw};
 ghost use Rattle.trunk.specs.Refuted.{EachPartRefutes};
 ghost use Rattle.trunk.specs.Rehearsal.{SixteenCalls};

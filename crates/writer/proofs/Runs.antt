@@ -17,7 +17,7 @@ use Rattle.writer.specs.Bodies.{Readable, AllOf}
 use Rattle.writer.specs.Drafts.{Draft, draft_says, fresh, first_of, unless, with_header, with_count, against_opening, against_payload, against_closing, is_open, fits, closable, deserving_type, reads_and, reserved_clear, well_formed, grown, Addition, item, typed, open_of, payload_of, add_of, close_of, after, Does, done, size}
 use Rattle.writer.specs.Refusals.{refused_at}
 use Rattle.writer.specs.Runs.{content_in, part_added, add_all, if_accepted, accepted, Holds, Closed, WhatIsClosedReads, is_written, WhatFitsIsWritten, ReadsAs, Run, Written}
-use Rattle.writer.specs.Values.{Item, Part, part_of, part_octets, body_octets, datagram_octets, datagram, placed_from, every, within, written, data_of}
+use Rattle.writer.specs.Values.{Item, Part, part_of, part_octets, body_octets, datagram_octets, placed_from, every, within, data_of}
 use Rattle.writer.proofs.Answering.{clear_of, passes}
 use Rattle.writer.proofs.Trips.{parts_read}
 use Rattle.writer.proofs.Written.{item_readable}

@@ -10,7 +10,7 @@ use Rattle.datagram.specs.Payloads.{Payload, past, payload_at}
 use Rattle.datagram.specs.Results.{map_ok, and_then, ask}
 use Rattle.datagram.specs.Structures.{content_of}
 use Rattle.datagram.proofs.Passing.{passed, bound, mapped_back}
-use Rattle.writer.specs.Bodies.{body_from, body_payloads, how_many, headed, HeaderAndBodyRead, BodyIsNotEmpty, Readable, AllOf, BodyReadsBack, WrittenReadsBack, ReplyReadsBack, CallForLifeReadsBack, RoundTrip, under_no_call, replied, reply, calling}
+use Rattle.writer.specs.Bodies.{body_from, body_payloads, how_many, headed, HeaderAndBodyRead, BodyIsNotEmpty, Readable, AllOf, BodyReadsBack, WrittenReadsBack, ReplyReadsBack, CallForLifeReadsBack, RoundTrip, under_no_call, replied, calling}
 use Rattle.writer.specs.Values.{Item, Value, Part, part_of, part_octets, body_octets, datagram_octets, written, datagram, placed_from, placed, item_of, value_of, InRange}
 use Rattle.writer.proofs.Written.{back24, part_back, items_readable, contents_readable}
 

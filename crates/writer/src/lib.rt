@@ -1,4 +1,6 @@
 // Writes H.323 Annex E datagrams into a caller's buffer: a header, then payloads, none of them ever by half.
+#![tactic(auto)]
+
 mod example;
 mod kind;
 mod marks;

@@ -1,4 +1,6 @@
 // What the writer does on examples: one trunk datagram from beginning to end, and each edge.
+#![tactic(auto)]
+
 mod acknowledgement;
 #[cfg(test)]
 mod additions;

@@ -1,4 +1,4 @@
-use Rattle.std.proofs.Common.{List, [], ◌∷◌, ◌++◌, take, drop, None, Ok, Err, codes, refl, ap, ◌∙◌}
+use Rattle.std.proofs.Common.{[], ◌∷◌, ◌++◌, take, drop, codes, refl, ap, ◌∙◌}
 use Rattle.std.specs.Fmt.{digits}
 use Rattle.capture.specs.declared.stop.Question.TheVariants.{HoldsRecord}
 use Rattle.capture.specs.Records.{Sent, place_of, sent_of}

@@ -1,4 +1,3 @@
-use Rattle.std.proofs.Common.{refl}
 use Rattle.callsheet.proofs.Pieces.{none_yet, line_more, no_more_lines}
 use Rattle.callsheet.proofs.lines.add_payloads.Goals as goal
 

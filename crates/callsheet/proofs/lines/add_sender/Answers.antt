@@ -1,4 +1,3 @@
-use Rattle.std.proofs.Common.{ap, ◌∙◌}
 use Rattle.callsheet.proofs.Pieces.{five}
 use Rattle.callsheet.proofs.lines.add_sender.Goals as goal
 

@@ -1,4 +1,3 @@
-use Rattle.std.proofs.Common.{ap, ◌∙◌}
 use Rattle.callsheet.proofs.Pieces.{three}
 use Rattle.callsheet.proofs.lines.add_stop.Goals as goal
 

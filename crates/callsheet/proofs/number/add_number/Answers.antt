@@ -1,4 +1,3 @@
-use Rattle.std.proofs.Common.{ap, ◌∙◌}
 use Rattle.callsheet.proofs.Pieces.{to_end}
 use Rattle.callsheet.proofs.number.add_number.Goals as goal
 

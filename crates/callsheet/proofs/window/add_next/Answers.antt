@@ -1,4 +1,4 @@
-use Rattle.std.proofs.Common.{◌≡◌, not, Some, None, Ok, vec_items, sym, refl, ap, ◌∙◌}
+use Rattle.std.proofs.Common.{◌≡◌, not, Some, None, Ok, vec_items, refl, ap, ◌∙◌}
 use Rattle.capture.specs.Records.{next_at}
 use Rattle.capture.specs.Views.{record_says, place_says}
 use Rattle.callsheet.specs.Windows.{window}

@@ -1,4 +1,4 @@
-use Rattle.std.proofs.Common.{◌≡◌, refl, ◌∙◌, arith}
+use Rattle.std.proofs.Common.{◌∙◌, arith}
 use Rattle.callsheet.proofs.window.add_window.Goals as goal
 
 pub loop-smaller : goal.loop-smaller

@@ -1,4 +1,4 @@
-use Rattle.std.proofs.Common.{◌≡◌, ◌≤◌, length, arith, rules}
+use Rattle.std.proofs.Common.{◌≤◌, length, arith, rules}
 use Rattle.std.proofs.lemmas.List.{take_rest}
 use Rattle.capture.proofs.Fields.{body_reads}
 use Rattle.capture.proofs.record.Record.read.Goals as goal

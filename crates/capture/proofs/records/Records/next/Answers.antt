@@ -1,4 +1,4 @@
-use Rattle.std.proofs.Common.{◌≡◌, ◌-◌, ◌≤◌, length, ap, arith, rules}
+use Rattle.std.proofs.Common.{◌-◌, ◌≤◌, length, ap, arith, rules}
 use Rattle.std.proofs.lemmas.List.{take_rest, length-drop}
 use Rattle.capture.proofs.Fields.{next_gives, next_moves}
 use Rattle.capture.proofs.records.Records.next.Goals as goal

@@ -1,4 +1,4 @@
-use Rattle.std.proofs.Common.{◌≡◌, Ok, sym, ap, ◌∙◌}
+use Rattle.std.proofs.Common.{◌≡◌, Ok, ap, ◌∙◌}
 use Rattle.datagram.specs.Datagrams.{some_deserves}
 use Rattle.datagram.specs.Places.{first_place, payloads_ahead, sound_ahead}
 use Rattle.datagram.specs.Results.{map_ok}

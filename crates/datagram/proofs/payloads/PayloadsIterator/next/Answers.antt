@@ -1,4 +1,4 @@
-use Rattle.std.proofs.Common.{None, rules}
+use Rattle.std.proofs.Common.{rules}
 use Rattle.datagram.specs.Views.{payload_says, place_says}
 use Rattle.datagram.proofs.Places.{takes_payload, takes_nothing}
 use Rattle.datagram.proofs.Taking.{goes_on}
