@@ -6,9 +6,10 @@ pub mod Masks
 pub mod Slots
 pub mod Lists
 pub mod Histories
-pub mod ListLaws
+-- Lemmas that the laws of the two windows rest on: proofs, and nothing to believe.
 pub mod Steps
 pub mod Judging
-pub mod SlotLaws
 pub mod WindowLaws
 pub mod BitLaws
+pub mod SlotLaws
+pub mod ListLaws

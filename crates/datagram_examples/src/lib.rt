@@ -1,6 +1,6 @@
+// Examples of datagrams at every edge: each is proved to be safe and then run, and a check that fails ends its run.
 #![tactic(auto)]
 
-// Examples of datagrams at every edge: each is proved to be safe and to return, and then run.
 #[cfg(test)]
 mod accepted;
 #[cfg(test)]

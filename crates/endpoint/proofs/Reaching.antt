@@ -35,7 +35,7 @@ pub limits_met : LimitsMet limits
 limits_met = record {
   numbers = λ start. refl;
   given = λ n. refl;
-  last_time_lem = λ time. refl;
+  last_time = λ time. refl;
   timers = λ n. refl;
   tries = reaches_tries;
   smallest = reaches_smallest;

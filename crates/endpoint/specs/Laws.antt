@@ -73,7 +73,7 @@ ComesAbout f n = (cs : List Call) × (outstanding_after f cs ≡ Some n)
 pub record LimitsMet (l : Limits) : Type 0 where
   pub numbers : (start : ℕ) → opened start ≡ cond (nat_lt start l.numbers) (Ok (new_end start)) (Err StartTooHigh)
   pub given : (n : ℕ) → numbers_left n ≡ nat_lt n l.given
-  pub last_time_lem : (time : ℕ) → is_time time ≡ nat_le time l.last_time
+  pub last_time : (time : ℕ) → is_time time ≡ nat_le time l.last_time
   pub timers : (n : Neighbour) → timers_of n ≡ l.timers
   pub tries : ComesAbout (λ m. m.transmissions) l.timers.tries
   pub smallest : ComesAbout (λ m. length m.octets) l.smallest
