@@ -1,12 +1,11 @@
 -- The entries of a Nack, one by one. Assumes nothing.
 use Rattle.std.proofs.Common.{◌≡◌, ℕ, zero, suc, ◌-◌, ◌<◌, ◌≤◌, Bool, true, false, cond, leb, List, length, take, drop, Some, Ok, Err, Option, refl, ap, ◌∙◌, arith}
 use Rattle.std.proofs.lemmas.List.{drop-drop}
-use Rattle.std.proofs.lemmas.Bool.{le-leb, eq-eqb, ne_eqb}
+use Rattle.std.proofs.lemmas.Bool.{le-leb}
 use Rattle.datagram.specs.Layout.{octet, be16, be24, entry_end, inner_count}
-use Rattle.datagram.specs.Lists.{Takes}
 use Rattle.datagram.specs.Places.{Entries, first_entry, without, after_first}
-use Rattle.datagram.specs.Structures.{Entry, entries, meet_end, miscounts, nack_of, reason_for}
-use Rattle.datagram.proofs.Taking.{taken}
+use Rattle.datagram.specs.Structures.{Entry, entries, meet_end, miscounts, nack_of}
+use Rattle.datagram.proofs.Taking.{Gives}
 
 abbrev pub standing : ℕ → List ℕ → Entries
 standing n d = record { count = n; octets = d }
@@ -21,23 +20,16 @@ first_moves n d rest x e ir = ap (λ l. standing (n - 1) l) (ir ∙ drop-drop (o
 
 -- the next entry, and those after it, are the entries that were to come
 takes_at : (b : Bool) (n : ℕ) (d : List ℕ) → leb (entry_end d) (length d) ≡ b
-    → Takes (entries (suc n) d) (first_entry (standing (suc n) d)) (entries (after_first (standing (suc n) d)).count (after_first (standing (suc n) d)).octets)
-takes_at true n d e = let k : suc n - 1 ≡ n = omega arith in rw (e, k) (record { gives = refl; leaves = refl })
-takes_at false n d e = rw e (record { gives = refl; leaves = rw e refl })
+    → Gives (entries (suc n) d) (first_entry (standing (suc n) d)) (entries (after_first (standing (suc n) d)).count (after_first (standing (suc n) d)).octets)
+takes_at true n d e = let k : suc n - 1 ≡ n = omega arith in rw (e, k) refl
+takes_at false n d e = rw e (refl, rw e refl)
 
-takes : (n : ℕ) (d : List ℕ) → Takes (entries n d) (first_entry (standing n d)) (entries (after_first (standing n d)).count (after_first (standing n d)).octets)
-takes zero d = record { gives = refl; leaves = refl }
+takes : (n : ℕ) (d : List ℕ) → Gives (entries n d) (first_entry (standing n d)) (entries (after_first (standing n d)).count (after_first (standing n d)).octets)
+takes zero d = (refl, refl)
 takes (suc n) d = takes_at (leb (entry_end d) (length d)) n d refl
 
-pub takes_entry : (e f : Entries) (r : Option Entry) → r ≡ first_entry e → f ≡ after_first e → Takes (entries e.count e.octets) r (entries f.count f.octets)
+pub takes_entry : (e f : Entries) (r : Option Entry) → r ≡ first_entry e → f ≡ after_first e → Gives (entries e.count e.octets) r (entries f.count f.octets)
 takes_entry e f r ir if' = rw (ir, if') (takes e.count e.octets)
 
 pub nack_by : (s : List ℕ) (at : ℕ) (b : Bool) → 1 ≤ length s → b ≡ meet_end (inner_count s) (drop 1 s) → cond b (Ok (entries (inner_count s) (drop 1 s))) (Err (miscounts at)) ≡ nack_of s at
 nack_by s at b long e = rw (le-leb 1 (length s) long, e) refl
-
--- an entry that was taken settles the reason for its number, and for no other
-pub reason_found : (n : ℕ) (e : Entry) (es fs : List Entry) → Takes es (Some e) fs → e.number ≡ n → Some e.reason ≡ reason_for n es
-reason_found n e es fs t h = rw (taken e es fs t, eq-eqb e.number n h) refl
-
-pub reason_later : (n : ℕ) (e : Entry) (es fs : List Entry) → Takes es (Some e) fs → (e.number ≡ n → ⊥) → reason_for n es ≡ reason_for n fs
-reason_later n e es fs t h = rw (taken e es fs t, ne_eqb e.number n h) refl

@@ -11,14 +11,15 @@ use Rattle.datagram.proofs.payload.Payload.read.Goals as goal
 use Rattle.datagram.proofs.payload.Payload.read.Goals.{After-read}
 
 -- the data that was cut is the definition's, so the payload is read as its content r is
-reads : (c : After-read) (v : ℕ) (r : Result Content Fault) → v ≡ crv_field c.args.rest.now → r ≡ content_of (type_field c.args.rest.now) c.split_at.result.0.now (c.args.at + 5) → map_ok (λ m. record { crv = v; offset = c.args.at + 5; octets = c.split_at.result.0.now; content = m }) r ≡ payload_at c.args.rest.now c.args.at
+reads : (c : After-read) (v : ℕ) (r : Result Content Fault) → v ≡ crv_field c.args.rest.now → r ≡ content_of (type_field c.args.rest.now) c.in-Some.data.now (c.args.at + 5) → map_ok (λ m. record { crv = v; offset = c.args.at + 5; octets = c.in-Some.data.now; content = m }) r ≡ payload_at c.args.rest.now c.args.at
 reads c v r iv ir =
     let d = c.args.rest.now in
     let n = c.from_be_bytes-length.result in
     let rest = take_rest d 5 in
     let long : 5 ≤ length d = search rules in
-    let fits : n ≤ length d - 5 = omega (arith, length-drop 5 d, ap length rest) in
-    payload_reads d _ n v _ r long c.from_be_bytes-length.ensures iv fits (rw rest at c.split_at.ensures.front) ir
+    let cut = c.in-Some.ensures.cases in
+    let fits : n ≤ length d - 5 = omega (arith, length-drop 5 d, ap length rest, cut.0) in
+    payload_reads d _ n v _ r long c.from_be_bytes-length.ensures iv fits (rw rest at cut.1) ir
 
 pub returns-in_err-content : goal.returns-in_err-content
 returns-in_err-content c =

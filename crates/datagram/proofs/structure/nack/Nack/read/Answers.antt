@@ -14,7 +14,7 @@ tested c =
 
 pub returns-then-not-meets_end : goal.returns-then-not-meets_end
 returns-then-not-meets_end c =
-    ap Err c.miscounted.ensures ∙ rw c.if-not-meets_end.true at (tested (goal.at.returns-then-not-meets_end c).After-meets_end)
+    ap Err c.fails_at-then-not-meets_end.ensures ∙ rw c.if-not-meets_end.true at (tested (goal.at.returns-then-not-meets_end c).After-meets_end)
 
 pub returns : goal.returns
 returns c =
