@@ -1,11 +1,7 @@
 -- One step of a reader, and what it leaves to come. Assumes nothing.
-use Rattle.std.proofs.Common.{◌≡◌, ℕ, zero, suc, ◌-◌, ◌<◌, ◌≤◌, Bool, true, false, cond, ◌||◌, leb, List, [], ◌∷◌, length, drop, Some, None, Ok, Err, Option, Result, sym, refl, ap, ◌∙◌, arith}
-use Rattle.std.proofs.lemmas.List.{drop_all}
+use Rattle.std.proofs.Common.{◌≡◌, ℕ, zero, suc, ◌-◌, ◌<◌, Bool, true, false, cond, ◌||◌, leb, List, [], ◌∷◌, length, drop, Some, None, Ok, Err, Option, Result, sym, refl, ap, ◌∙◌, arith}
 use Rattle.datagram.specs.declared.fault.Fault.{Fault}
-use Rattle.datagram.specs.declared.fault.Question.TheVariants.{HoldsPayloadHeader}
-use Rattle.datagram.specs.declared.fault.Layer.TheVariants as layer
 use Rattle.datagram.specs.Datagrams.{payloads_from, some_deserves}
-use Rattle.datagram.specs.Faults.{no}
 use Rattle.std.specs.Iterator.{YieldsFirstBy}
 use Rattle.std.specs.Option.{option_map, option_flatten}
 use Rattle.std.specs.Result.{result_ok}
@@ -31,10 +27,6 @@ next_moves d at n p e = ap (moved (place d at n)) e
 
 pub next_stays : (d : List ℕ) (at n : ℕ) (f : Fault) → Err f ≡ next_at (place d at n) → place d at n ≡ place_after (place d at n)
 next_stays d at n f e = ap (moved (place d at n)) e
-
--- past the datagram's end there is no header of a payload
-pub payload_past : (d : List ℕ) (at : ℕ) → length d ≤ at → Err (no HoldsPayloadHeader layer.Payload at) ≡ payload_at (drop at d) at
-payload_past d at h = ap (λ l. payload_at l at) (sym (drop_all at d h))
 
 some_back : (p : Payload) (r : Result Payload Fault) → Ok (Some p) ≡ map_ok Some r → r ≡ Ok p
 some_back p (Ok q) e = cc
