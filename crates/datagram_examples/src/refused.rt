@@ -3,10 +3,8 @@ use datagram::{Datagram, Layer};
 
 // What is refused, by number, layer and offset; nothing where the datagram is accepted.
 fn refusal(octets: &[u8]) -> Option<(u8, Layer, usize)> {
-    match Datagram::read(octets) {
-        Ok(_) => None,
-        Err(fault) => Some((fault.question.number(), fault.layer, fault.offset)),
-    }
+    let fault = Datagram::read(octets).err()?;
+    Some((fault.question.number(), fault.layer, fault.offset))
 }
 
 #[test]

@@ -1,6 +1,6 @@
 // Why a call was refused.
 ghost use Rattle.std.specs.Prelude.{◌≡◌};
-ghost use Rattle.endpoint.specs.Refusals.{number_of, layer_of, offset_of};
+ghost use Rattle.endpoint.specs.Refusals.{number_of, layer_of_part, layer_of, offset_of};
 
 use datagram::Fault;
 
@@ -35,8 +35,20 @@ pub enum Layer {
     Structure,
 }
 
+impl From<datagram::Layer> for Layer {
+    ghost from_gives = { λ part layer. layer ≡ layer_of_part part };
+
+    fn from(part: datagram::Layer) -> Layer {
+        match part {
+            datagram::Layer::Datagram => Layer::Datagram,
+            datagram::Layer::Payload => Layer::Payload,
+            datagram::Layer::Structure => Layer::Structure,
+        }
+    }
+}
+
 impl Refusal {
-    // the number that the outside sees
+    // The number that the outside sees. One case holds a fault, so the cases cannot be numbers themselves, as a `Question` is.
     pub fn number(self) -> u8
         ensures { result ≡ number_of self }
     {
@@ -63,13 +75,9 @@ impl Refusal {
     pub fn layer(self) -> Layer
         ensures { result ≡ layer_of self }
     {
-        let Refusal::Unreadable(fault) = self else {
-            return Layer::End;
-        };
-        match fault.layer {
-            datagram::Layer::Datagram => Layer::Datagram,
-            datagram::Layer::Payload => Layer::Payload,
-            datagram::Layer::Structure => Layer::Structure,
+        match self {
+            Refusal::Unreadable(fault) => fault.layer.into(),
+            _ => Layer::End,
         }
     }
 
