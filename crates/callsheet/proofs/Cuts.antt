@@ -5,7 +5,7 @@ use Rattle.capture.specs.Layout.{record_end}
 use Rattle.capture.specs.Records.{Sent, Place, place_of, next_at, place_after}
 use Rattle.capture.specs.Stops.{turnable}
 use Rattle.callsheet.specs.Laws.{joined, WindowsMakeTheSheet, LawsOfWindows}
-use Rattle.callsheet.specs.Text.{Added, record_text, stop_text, column_line, sheet_text}
+use Rattle.callsheet.specs.Text.{record_text, stop_text, column_line, sheet_text}
 use Rattle.callsheet.specs.Windows.{Window, window, preceded, window_at, lines_over}
 use Rattle.callsheet.proofs.Following.{followed, record_follows, stop_follows, place_follows, no_tail, none_short, turnable_short}
 use Rattle.callsheet.proofs.Steps.{few, counted, lines_from, lines_step, lines_none, lines_stop, window_step, window_none, window_stop}
@@ -90,7 +90,6 @@ pub laws_of_windows : LawsOfWindows
 laws_of_windows = record { sheet = windows_make_the_sheet; memory = λ p. short _ p (next_at p) refl refl }
 
 -- a capture that is read whole, as one last window
-pub whole_sheet : (t t₁ t₂ d : List ℕ) (p q : Place) (more : Bool) → t ≡ [] → Added t column_line t₁ → p ≡ place_of d 0 → preceded t₁ (window_at true p) ≡ window t₂ more q → t₂ ≡ sheet_text d
-whole_sheet t t₁ t₂ d p q more none first begins h =
-    let begun : t₁ ≡ column_line = first.all ∙ ap (λ u. u ++ column_line) none in
-    sym (ap (λ w. w.text) h) ∙ ap (λ u. u ++ (window_at true p).text) begun ∙ ap (λ u. column_line ++ u) (last_lines p ∙ ap lines_from begins)
+pub whole_sheet : (t₁ t d : List ℕ) (q : Place) (more : Bool) → t₁ ≡ column_line → preceded t₁ (window_at true (place_of d 0)) ≡ window t more q → t ≡ sheet_text d
+whole_sheet t₁ t d q more first h =
+    sym (ap (λ w. w.text) h) ∙ ap (λ u. u ++ (window_at true (place_of d 0)).text) first ∙ ap (λ u. column_line ++ u) (last_lines (place_of d 0))

@@ -13,17 +13,13 @@ const WINDOW: u64 = 65536;
 
 // Adds the octets of the next window to those that are unread, and answers how many came: none at the capture's end.
 fn read_more(rt: &HostRuntime, sheet: &mut Sheet) -> Result<usize, Failure> {
-    match rt.stdin().take(WINDOW).read_to_end(&mut sheet.unread) {
-        Ok(came) => Ok(came),
-        Err(e) => Err(Failure::Reading(e)),
-    }
+    let mut window = rt.stdin().take(WINDOW);
+    window.read_to_end(&mut sheet.unread).map_err(Failure::Reading)
 }
 
 fn write_text(rt: &HostRuntime, sheet: &Sheet) -> Result<(), Failure> {
-    match rt.stdout().write_all(sheet.text()) {
-        Ok(()) => Ok(()),
-        Err(e) => Err(Failure::Writing(e)),
-    }
+    let text = sheet.text().as_bytes();
+    rt.stdout().write_all(text).map_err(Failure::Writing)
 }
 
 fn print_sheet(rt: &HostRuntime) -> Result<(), Failure> {
