@@ -12,7 +12,7 @@ use Rattle.std.specs.declared.net.socket_addr.SocketAddrV4.{SocketAddrV4}
 use Rattle.datagram.specs.Lists.{Takes}
 use Rattle.datagram.specs.Payloads.{Payload}
 use Rattle.datagram.proofs.Taking.{taken, none_left}
-use Rattle.callsheet.specs.Text.{spaced, last_of_line, sender_text, payload_text, payload_lines}
+use Rattle.callsheet.specs.Text.{spaced, sender_text, payload_text, payload_lines}
 
 -- from f to g some of the lines of ps were written, and those of qs are still to come
 pub record Ahead {W : Type 0} (took : W → List ℕ → W → Type 0) (f : Formatter W) (front : List ℕ) (ps : List Payload) (g : Formatter W) (qs : List Payload) : Type 0 where
@@ -34,10 +34,6 @@ no_more_lines front w ps {qs} {rs} t h = sym (append-nil w) ∙ ap (λ xs. w ++ 
 pub front_pieces : (n s port : ℕ) (a : List ℕ) (sender : SocketAddrV4) → ipv4_octets (v4_ip sender) ≡ a → v4_port sender ≡ port
     → decimal n ++ (codes " " ++ (decimal s ++ (codes " " ++ (socket_v4_text sender ++ codes " ")))) ≡ spaced n ++ (spaced s ++ sender_text a port)
 front_pieces n s port a sender ia ip = rw (ia, ip) (simp append_assoc)
-
--- the same of a payload's line, behind the front of each
-pub payload_pieces : (front : List ℕ) (k t crv n : ℕ) → k ≡ t → front ++ (decimal k ++ (codes " " ++ (decimal crv ++ (codes " " ++ (decimal n ++ codes "\n"))))) ≡ front ++ (spaced t ++ (spaced crv ++ last_of_line n))
-payload_pieces front k t crv n it = rw it (simp append_assoc)
 
 -- what an inline text holds after one write, which makes some calls
 inline_calls : {n : ℕ} (s : InlineText n) (parts : List (List ℕ)) (t : InlineText n) → FoldsTo AppendsIfIntact s parts t → AppendsIfIntact s (concat parts) t

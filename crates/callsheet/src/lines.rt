@@ -2,13 +2,13 @@
 ghost use Rattle.std.specs.Prelude.{◌≡◌, ◌++◌, IfOk, Some, string_bytes};
 ghost use Rattle.std.specs.Fmt.{WritesOnOk};
 ghost use Rattle.std.specs.Fmt.InlineText.{inline_text};
-ghost use Rattle.datagram.specs.Views.{payloads_say};
+ghost use Rattle.datagram.specs.Views.{payload_says, payloads_say};
 ghost use Rattle.capture.specs.Views.{record_says};
 ghost use Rattle.callsheet.specs.Laws.{RecordsMakeTheSheet};
-ghost use Rattle.callsheet.specs.Text.{spaced, front_text, payload_lines, record_text, stop_text};
+ghost use Rattle.callsheet.specs.Text.{spaced, front_text, payload_text, payload_lines, record_text, stop_text};
 
 use capture::{Record, Stop};
-use datagram::{Datagram, Payloads};
+use datagram::{Datagram, Payload, Payloads};
 use std::alloc::{AllocError, Global};
 use std::fmt;
 use std::fmt::{InlineText, Write};
@@ -23,19 +23,17 @@ const LONGEST_FRONT: usize = 55;
 
 // What each line of record `number` begins with.
 #[derive(Clone, Copy)]
-struct Front<'f> {
-    number: u32,
-    record: &'f Record<'f>,
+pub(crate) struct Front<'f> {
+    pub(crate) number: u32,
+    pub(crate) record: &'f Record<'f>,
 }
 
 impl fmt::Display for Front<'_> {
     ghost output = { λ s. Some (front_text s.number (record_says s.«record».now)) };
 
     fn fmt<W: fmt::Write>(&self, f: &mut fmt::Formatter<W>) -> fmt::Result {
-        let number = self.number;
-        let seconds = self.record.seconds;
         let sender = SocketAddrV4::new(Ipv4Addr::from(self.record.address), self.record.port);
-        write!(f, "{number} {seconds} {sender} ")
+        write!(f, "{} {} {sender} ", self.number, self.record.seconds)
     }
 }
 
@@ -53,29 +51,24 @@ impl Front<'_> {
 
 // The lines of record `number`: one for each payload of a datagram that is accepted, or one for the fault of one that is refused.
 #[derive(Clone, Copy)]
-pub(crate) struct Lines<'f> {
-    pub(crate) number: u32,
-    pub(crate) record: &'f Record<'f>,
-}
+pub(crate) struct Lines<'f>(pub(crate) Front<'f>);
 
 impl fmt::Display for Lines<'_> {
-    ghost output = { λ s. Some (record_text s.number (record_says s.«record».now)) };
+    ghost output = { λ s. Some (record_text s.0.number (record_says s.0.«record».now)) };
 
     fn fmt<W: fmt::Write>(&self, f: &mut fmt::Formatter<W>) -> fmt::Result {
-        let front = Front {
-            number: self.number,
-            record: self.record,
-        };
-        match Datagram::read(self.record.datagram) {
+        let front = self.0;
+        match Datagram::read(front.record.datagram) {
             Ok(datagram) => {
                 let front = front.of_datagram(datagram.number)?;
                 write_payloads(f, front.as_str(), datagram.payloads)
             }
-            Err(fault) => {
-                let question = fault.question.number();
-                let offset = fault.offset;
-                write!(f, "{front}fault {question} {offset}\n")
-            }
+            Err(fault) => writeln!(
+                f,
+                "{front}fault {} {}",
+                fault.question.number(),
+                fault.offset
+            ),
         }
     }
 }
@@ -89,12 +82,29 @@ fn write_payloads<W: fmt::Write>(
     ensures { WritesOnOk W.write_str_gives f.old result (payload_lines front.now (payloads_say payloads.entry)) f.new }
 {
     for payload in payloads {
-        let kind = payload.content.kind();
-        let crv = payload.crv;
-        let length = payload.data.len();
-        write!(f, "{front}{kind} {crv} {length}\n")?;
+        let line = PayloadLine(payload);
+        write!(f, "{front}{line}")?;
     }
     Ok(())
+}
+
+// What the line of a payload ends with.
+#[derive(Clone, Copy)]
+struct PayloadLine<'d>(Payload<'d>);
+
+impl fmt::Display for PayloadLine<'_> {
+    ghost output = { λ s. Some (payload_text (payload_says s.0)) };
+
+    fn fmt<W: fmt::Write>(&self, f: &mut fmt::Formatter<W>) -> fmt::Result {
+        let PayloadLine(payload) = self;
+        writeln!(
+            f,
+            "{} {} {}",
+            payload.content.kind(),
+            payload.crv,
+            payload.data.len()
+        )
+    }
 }
 
 // The line that ends the sheet of a capture which cannot be read on.
@@ -105,9 +115,7 @@ impl fmt::Display for StopLine {
     ghost output = { λ s. Some (stop_text s.0) };
 
     fn fmt<W: fmt::Write>(&self, f: &mut fmt::Formatter<W>) -> fmt::Result {
-        let question = self.0.question.number();
-        let number = self.0.record;
-        write!(f, "stop {question} {number}\n")
+        writeln!(f, "stop {} {}", self.0.question.number(), self.0.record)
     }
 }
 
@@ -116,7 +124,7 @@ pub fn record_lines(heap: Global, number: u32, record: &Record) -> Result<String
     ensures lines { IfOk result (λ lines. string_bytes lines ≡ record_text number (record_says «record».now)) }
     ensures law { RecordsMakeTheSheet }
 {
-    Lines { number, record }.to_string(heap)
+    Lines(Front { number, record }).to_string(heap)
 }
 
 // The line that ends the sheet of a capture which cannot be read on.

@@ -3,7 +3,7 @@ ghost use Rattle.std.specs.Prelude.{◌≡◌, IfOk, string_bytes};
 ghost use Rattle.capture.specs.Views.{place_says};
 ghost use Rattle.callsheet.specs.Windows.{window, window_at, preceded};
 
-use crate::lines::{Lines, StopLine};
+use crate::lines::{Front, Lines, StopLine};
 use capture::Records;
 use std::alloc::AllocError;
 
@@ -19,10 +19,10 @@ pub(crate) fn add_window(
     loop {
         match records.next() {
             Ok(Some(record)) => {
-                let lines = Lines {
+                let lines = Lines(Front {
                     number: records.before,
                     record: &record,
-                };
+                });
                 write!(text, "{lines}")?;
             }
             Ok(None) => return Ok(!last),

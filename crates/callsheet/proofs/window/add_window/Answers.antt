@@ -27,9 +27,9 @@ returns-then-is_turnable c =
 pub returns-in-Err : goal.returns-in-Err
 returns-in-Err c =
     let settled : (c.args.last || not (turnable c.in-Err.stop.question)) ≡ true =
-        elim c.else-not-last.branch [
-          else-not-last-via-then-not-last+else-is_turnable w ↦ rw (w.if-not-last.true, ← w.is_turnable.ensures, w.if-is_turnable.false) refl
-        | else-not-last-via-else-not-last w ↦ rw w.if-not-last.false refl
-        ] in
+    elim c.else-not-last.branch [
+      | else-not-last-via-then-not-last+else-is_turnable w ↦ rw (w.if-not-last.true, ← w.is_turnable.ensures, w.if-is_turnable.false) refl
+      | else-not-last-via-else-not-last w ↦ rw w.if-not-last.false refl
+    ] in
     c.loop-record.invariant
     ∙ adds_stop c.args.last _ _ (place_says c.loop-record.records) (place_says c.next.new.self) _ settled c.in-Err.ensures.gives c.next.ensures.moves c.in_ok-write-in-Err.ensures.bytes
