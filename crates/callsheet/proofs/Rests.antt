@@ -6,7 +6,7 @@ use Rattle.capture.specs.Records.{Sent, Place, place_of, next_at, moved, place_a
 use Rattle.capture.specs.Stops.{turnable}
 use Rattle.callsheet.specs.Text.{stop_text}
 use Rattle.callsheet.specs.Windows.{Window, window, preceded, window_at}
-use Rattle.callsheet.proofs.Steps.{few, counted, window_step, window_none, window_stop}
+use Rattle.callsheet.proofs.Steps.{by_steps}
 
 pub record IsRest (d r : List ℕ) : Type 0 where
   pub fits : length r ≤ length d
@@ -49,18 +49,14 @@ moved_leaves p (Ok (Some s)) = is_rest_drop _ p.octets
 moved_leaves p (Ok None) = whole p.octets
 moved_leaves p (Err e) = whole p.octets
 
-leaves : (k : ℕ) (last : Bool) (p : Place) (r : Result (Option Sent) Stop) → k ≡ 999999 - p.before → r ≡ next_at p → Leaves p (window_at last p)
-leaves zero last p (Ok (Some s)) is e = let less = few p s e in absurd (omega arith)
-leaves (suc k) last p (Ok (Some s)) is e =
-    let q = place_after p in
-    let next = counted p q s e refl in
-    subst (Leaves p) (sym (window_step last p q s e refl))
-    (further p.octets q.octets (window_at last q).place.octets (moved_leaves p (next_at p)) (leaves k last q (next_at q) (omega arith) refl))
-leaves k last p (Ok None) is e = subst (Leaves p) (sym (window_none last p e)) (whole p.octets)
-leaves k last p (Err s) is e = subst (Leaves p) (sym (window_stop last p s e)) (stop_leaves (last || not (turnable s.question)) p (stop_text s))
+leaves : (last : Bool) (p : Place) → Leaves p (window_at last p)
+leaves last = by_steps last Leaves
+    (λ p s e h. further p.octets (place_after p).octets (window_at last (place_after p)).place.octets (moved_leaves p (next_at p)) h)
+    (λ p e. whole p.octets)
+    (λ p s e. stop_leaves (last || not (turnable s.question)) p (stop_text s))
 
 pub window_leaves : (last : Bool) (p q : Place) (t : List ℕ) (more : Bool) → window_at last p ≡ window t more q → IsRest p.octets q.octets
-window_leaves last p q t more e = subst (Leaves p) e (leaves _ last p (next_at p) refl refl)
+window_leaves last p q t more e = subst (Leaves p) e (leaves last p)
 
 -- a window whose lines were put behind no text
 pub read_from : (last : Bool) (t t' d s : List ℕ) (k : ℕ) (q : Place) (more : Bool) → t ≡ [] → s ≡ d → preceded t (window_at last (place_of s k)) ≡ window t' more q → window_at last (place_of d k) ≡ window t' more q

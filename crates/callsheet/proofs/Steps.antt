@@ -1,5 +1,5 @@
 -- One step through the records of a window, and what it leaves to come. Assumes nothing.
-use Rattle.std.proofs.Common.{◌≡◌, ℕ, zero, suc, ◌+◌, ◌-◌, ◌<◌, Bool, true, false, cond, not, ◌||◌, eqb, ltb, ◌⊎◌, List, [], ◌++◌, length, Some, None, Ok, Err, Option, Result, sym, refl, ap, ◌∙◌, inl, inr, append_assoc, append-nil, arith}
+use Rattle.std.proofs.Common.{◌≡◌, ℕ, zero, suc, ◌+◌, ◌-◌, ◌<◌, Bool, true, false, cond, not, ◌||◌, eqb, ltb, List, [], ◌++◌, length, Some, None, Ok, Err, Option, Result, sym, refl, ap, ◌∙◌, subst, append_assoc, append-nil, arith}
 use Rattle.std.proofs.lemmas.Bool.{ltb-true}
 use Rattle.datagram.specs.Results.{map_ok, ask}
 use Rattle.capture.specs.declared.stop.Stop.{Stop}
@@ -10,8 +10,8 @@ use Rattle.callsheet.specs.Windows.{Window, window, preceded, stepped, window_fo
 
 -- where a record is given, it is among the first 999,999, and the place moves on by one
 some_few : (a b : Bool) (n : ℕ) (s : Sent) (e : Stop) (r : Result Sent Stop) → ltb n 999999 ≡ b → Ok (Some s) ≡ cond a (Ok None) (ask b e (map_ok Some r)) → n < 999999
-some_few true b n s e r is h = let z : ◌≡◌ {A = ℕ} 0 1 = cc in absurd (omega arith)
-some_few false false n s e r is h = let z : ◌≡◌ {A = ℕ} 0 1 = cc in absurd (omega arith)
+some_few true b n s e r is h = absurd (cc)
+some_few false false n s e r is h = absurd (cc)
 some_few false true n s e r is h = ltb-true n 999999 is
 
 pub few : (p : Place) (s : Sent) → Ok (Some s) ≡ next_at p → p.before < 999999
@@ -80,6 +80,22 @@ window_none last p e = window_over last (999999 - p.before) p (Ok None) _ e (λ 
 
 pub window_stop : (last : Bool) (p : Place) (s : Stop) → Err s ≡ next_at p → window_at last p ≡ cond (last || not (turnable s.question)) (window (stop_text s) false p) (window [] true p)
 window_stop last p s e = window_over last (999999 - p.before) p (Err s) _ e (λ _. refl)
+
+-- what holds of a window where no record is given, and of a record's lines before a window of which it holds, holds of each window
+pub by_steps : (last : Bool) (P : Place → Window → Type 0)
+    → ((p : Place) (s : Sent) → Ok (Some s) ≡ next_at p → P (place_after p) (window_at last (place_after p)) → P p (preceded (record_text (p.before + 1) s) (window_at last (place_after p))))
+    → ((p : Place) → Ok None ≡ next_at p → P p (window [] (not last) p))
+    → ((p : Place) (s : Stop) → Err s ≡ next_at p → P p (cond (last || not (turnable s.question)) (window (stop_text s) false p) (window [] true p)))
+    → (p : Place) → P p (window_at last p)
+by_steps last P some none stop p = steps _ p (next_at p) refl refl
+  where
+    steps : (k : ℕ) (p : Place) (r : Result (Option Sent) Stop) → k ≡ 999999 - p.before → r ≡ next_at p → P p (window_at last p)
+    steps zero p (Ok (Some s)) is e = let less = few p s e in absurd (omega arith)
+    steps (suc k) p (Ok (Some s)) is e =
+        let next = counted p (place_after p) s e refl in
+        subst (P p) (sym (window_step last p (place_after p) s e refl)) (some p s e (steps k (place_after p) (next_at (place_after p)) (omega arith) refl))
+    steps k p (Ok None) is e = subst (P p) (sym (window_none last p e)) (none p e)
+    steps k p (Err s) is e = subst (P p) (sym (window_stop last p s e)) (stop p s e)
 
 -- What the code adds at a step, held to the window.
 

@@ -5,20 +5,15 @@ use std::test::Fail;
 
 // The sheet of two windows; the third, to which nothing comes, is the last.
 fn in_two(heap: Global, first: &[u8], second: &[u8]) -> Result<String, AllocError> {
-    let mut whole = String::new(heap);
     let mut sheet = Sheet::begin(heap)?;
-    whole.push_str(sheet.text())?;
-    sheet.unread.extend_from_slice(first)?;
-    let mut more = sheet.read_window(false)?;
-    whole.push_str(sheet.text())?;
-    if more {
-        sheet.unread.extend_from_slice(second)?;
-        more = sheet.read_window(false)?;
+    let mut whole = String::from_str(heap, sheet.text())?;
+    for (octets, last) in [(first, false), (second, false), (&[], true)] {
+        sheet.unread.extend_from_slice(octets)?;
+        let more = sheet.read_window(last)?;
         whole.push_str(sheet.text())?;
-    }
-    if more {
-        let _ = sheet.read_window(true)?;
-        whole.push_str(sheet.text())?;
+        if !more {
+            break;
+        }
     }
     Ok(whole)
 }
