@@ -5,10 +5,10 @@ use Rattle.capture.specs.Layout.{record_end}
 use Rattle.capture.specs.Records.{Sent, Place, place_of, next_at, place_after}
 use Rattle.capture.specs.Stops.{turnable}
 use Rattle.callsheet.specs.Laws.{joined, WindowsMakeTheSheet, LawsOfWindows}
-use Rattle.callsheet.specs.Text.{Added, record_text, stop_text, column_line, sheet_text}
+use Rattle.callsheet.specs.Text.{record_text, stop_text, column_line, sheet_text}
 use Rattle.callsheet.specs.Windows.{Window, window, preceded, window_at, lines_over}
 use Rattle.callsheet.proofs.Following.{followed, record_follows, stop_follows, place_follows, no_tail, none_short, turnable_short}
-use Rattle.callsheet.proofs.Steps.{few, counted, lines_from, lines_step, lines_none, lines_stop, window_step, window_none, window_stop}
+use Rattle.callsheet.proofs.Steps.{by_steps, lines_from, lines_step, lines_none, lines_stop}
 
 -- the lines of a window, with those still to come, are the lines that were to come before it
 abbrev Conserves : Place → List ℕ → Window → Type 0
@@ -23,48 +23,40 @@ stop_conserved true u p tail s is h e = append-nil (stop_text s) ∙ sym (lines_
 stop_conserved false false p tail s is h e = append-nil (stop_text s) ∙ sym (lines_stop (followed p tail) s (stop_follows p tail s e (sym is)))
 stop_conserved false true p tail s is h e = refl
 
-record_conserved : (last : Bool) (p : Place) (tail : List ℕ) (s : Sent) → Ok (Some s) ≡ next_at p → Conserves (place_after p) tail (window_at last (place_after p)) → Conserves p tail (window_at last p)
+record_conserved : (last : Bool) (p : Place) (tail : List ℕ) (s : Sent) → Ok (Some s) ≡ next_at p → Conserves (place_after p) tail (window_at last (place_after p)) → Conserves p tail (preceded (record_text (p.before + 1) s) (window_at last (place_after p)))
 record_conserved last p tail s e h =
     let q = place_after p in
     let w = window_at last q in
     let t = record_text (p.before + 1) s in
-    subst (Conserves p tail) (sym (window_step last p q s e refl))
-    (append_assoc t w.text _ ∙ ap (λ u. t ++ u) h ∙ sym (lines_step (followed p tail) (followed q tail) s (record_follows p tail s e) (place_follows p tail s e)))
+    append_assoc t w.text _ ∙ ap (λ u. t ++ u) h ∙ sym (lines_step (followed p tail) (followed q tail) s (record_follows p tail s e) (place_follows p tail s e))
 
-conserved : (k : ℕ) (last : Bool) (p : Place) (tail : List ℕ) (r : Result (Option Sent) Stop) → k ≡ 999999 - p.before → (last ≡ true → tail ≡ []) → r ≡ next_at p → Conserves p tail (window_at last p)
-conserved zero last p tail (Ok (Some s)) is h e = let less = few p s e in absurd (omega arith)
-conserved (suc k) last p tail (Ok (Some s)) is h e =
-    let next = counted p (place_after p) s e refl in
-    record_conserved last p tail s e (conserved k last (place_after p) tail (next_at (place_after p)) (omega arith) h refl)
-conserved k last p tail (Ok None) is h e = subst (Conserves p tail) (sym (window_none last p e)) (none_conserved last p tail h e)
-conserved k last p tail (Err s) is h e = subst (Conserves p tail) (sym (window_stop last p s e)) (stop_conserved last (turnable s.question) p tail s refl h e)
+conserved : (last : Bool) (tail : List ℕ) → (last ≡ true → tail ≡ []) → (p : Place) → Conserves p tail (window_at last p)
+conserved last tail h = by_steps last (λ p w. Conserves p tail w)
+    (λ p s e. record_conserved last p tail s e)
+    (λ p e. none_conserved last p tail h e)
+    (λ p s e. stop_conserved last (turnable s.question) p tail s refl h e)
 
 -- nothing follows the last window
-last_over : (k : ℕ) (p : Place) (r : Result (Option Sent) Stop) → k ≡ 999999 - p.before → r ≡ next_at p → (window_at true p).more ≡ false
-last_over zero p (Ok (Some s)) is e = let less = few p s e in absurd (omega arith)
-last_over (suc k) p (Ok (Some s)) is e =
-    let next = counted p (place_after p) s e refl in
-    ap (λ w. w.more) (window_step true p (place_after p) s e refl) ∙ last_over k (place_after p) (next_at (place_after p)) (omega arith) refl
-last_over k p (Ok None) is e = ap (λ w. w.more) (window_none true p e)
-last_over k p (Err s) is e = ap (λ w. w.more) (window_stop true p s e)
+last_over : (p : Place) → (window_at true p).more ≡ false
+last_over = by_steps true (λ p w. w.more ≡ false) (λ p s e h. h) (λ p e. refl) (λ p s e. refl)
 
 last_lines : (p : Place) → (window_at true p).text ≡ lines_from p
 last_lines p =
     let w = window_at true p in
-    let all = conserved _ true p [] (next_at p) refl (λ _. refl) refl in
+    let all = conserved true [] (λ _. refl) p in
     sym (append-nil w.text)
-    ∙ ap (λ b. w.text ++ cond b (lines_from (followed w.place [])) []) (sym (last_over _ p (next_at p) refl refl))
+    ∙ ap (λ b. w.text ++ cond b (lines_from (followed w.place [])) []) (sym (last_over p))
     ∙ all ∙ ap lines_from (no_tail p [] refl)
 
 never : {X : Type 0} → ◌≡◌ {A = Bool} false true → X
-never e = let z : ◌≡◌ {A = ℕ} 0 1 = cc in absurd (omega arith)
+never e = absurd (cc)
 
 over : (windows : List (List ℕ)) (p : Place) → lines_over p windows ≡ lines_from (followed p (joined windows))
 over [] p = last_lines p ∙ ap lines_from (sym (no_tail p [] refl))
 over (octets ∷ later) p =
     let w = window_at false (followed p octets) in
     ap (λ l. w.text ++ cond w.more l []) (over later w.place)
-    ∙ conserved _ false (followed p octets) (joined later) (next_at (followed p octets)) refl (λ e. never e) refl
+    ∙ conserved false (joined later) (λ e. never e) (followed p octets)
     ∙ ap (λ d. lines_from (place_of d p.before)) (append_assoc p.octets octets (joined later))
 
 windows_make_the_sheet : WindowsMakeTheSheet
@@ -78,19 +70,13 @@ stop_short : (u : Bool) (p : Place) (s : Stop) → u ≡ turnable s.question →
 stop_short true p s is e = λ _. turnable_short p s e (sym is)
 stop_short false p s is e = λ m. never m
 
-short : (k : ℕ) (p : Place) (r : Result (Option Sent) Stop) → k ≡ 999999 - p.before → r ≡ next_at p → Short (window_at false p)
-short zero p (Ok (Some s)) is e = let less = few p s e in absurd (omega arith)
-short (suc k) p (Ok (Some s)) is e =
-    let next = counted p (place_after p) s e refl in
-    subst Short (sym (window_step false p (place_after p) s e refl)) (short k (place_after p) (next_at (place_after p)) (omega arith) refl)
-short k p (Ok None) is e = subst Short (sym (window_none false p e)) (λ _. none_short p e)
-short k p (Err s) is e = subst Short (sym (window_stop false p s e)) (stop_short (turnable s.question) p s refl e)
+short : (p : Place) → Short (window_at false p)
+short = by_steps false (λ p w. Short w) (λ p s e h. h) (λ p e _. none_short p e) (λ p s e. stop_short (turnable s.question) p s refl e)
 
 pub laws_of_windows : LawsOfWindows
-laws_of_windows = record { sheet = windows_make_the_sheet; memory = λ p. short _ p (next_at p) refl refl }
+laws_of_windows = record { sheet = windows_make_the_sheet; memory = short }
 
 -- a capture that is read whole, as one last window
-pub whole_sheet : (t t₁ t₂ d : List ℕ) (p q : Place) (more : Bool) → t ≡ [] → Added t column_line t₁ → p ≡ place_of d 0 → preceded t₁ (window_at true p) ≡ window t₂ more q → t₂ ≡ sheet_text d
-whole_sheet t t₁ t₂ d p q more none first begins h =
-    let begun : t₁ ≡ column_line = first.all ∙ ap (λ u. u ++ column_line) none in
-    sym (ap (λ w. w.text) h) ∙ ap (λ u. u ++ (window_at true p).text) begun ∙ ap (λ u. column_line ++ u) (last_lines p ∙ ap lines_from begins)
+pub whole_sheet : (t₁ t d : List ℕ) (q : Place) (more : Bool) → t₁ ≡ column_line → preceded t₁ (window_at true (place_of d 0)) ≡ window t more q → t ≡ sheet_text d
+whole_sheet t₁ t d q more first h =
+    sym (ap (λ w. w.text) h) ∙ ap (λ u. u ++ (window_at true (place_of d 0)).text) first ∙ ap (λ u. column_line ++ u) (last_lines (place_of d 0))

@@ -47,11 +47,11 @@ short_open : (d : List ℕ) (k : ℕ) → leb (record_end d) (length d) ≡ fals
 short_open d k h = rw h refl
 
 next_same_at : (a b c : Bool) (d tail : List ℕ) (k : ℕ) → eqb (length d) 0 ≡ a → ltb k 999999 ≡ b → leb (record_end d) (length d) ≡ c → settled (next_at (place_of d k)) ≡ true → next_at (place_of (d ++ tail) k) ≡ next_at (place_of d k)
-next_same_at true b c d tail k ea eb ec h = let z : ◌≡◌ {A = Bool} false true = rw ea at h in let y : ◌≡◌ {A = ℕ} 0 1 = cc in absurd (omega arith)
+next_same_at true b c d tail k ea eb ec h = let z : ◌≡◌ {A = Bool} false true = rw ea at h in absurd (cc)
 next_same_at false false c d tail k ea eb ec h = rw (ea, some_longer d tail ea, eb) refl
 next_same_at false true false d tail k ea eb ec h =
     let z : ◌≡◌ {A = Bool} false true = sym (short_open d (k + 1) ec) ∙ rw (ea, eb) at h in
-    let y : ◌≡◌ {A = ℕ} 0 1 = cc in absurd (omega arith)
+    absurd (cc)
 next_same_at false true true d tail k ea eb ec h = rw (ea, some_longer d tail ea, eb) (ap (map_ok Some) (record_same d tail (k + 1) (leb-true (record_end d) (length d) ec)))
 
 next_same : (p : Place) (tail : List ℕ) → settled (next_at p) ≡ true → next_at (followed p tail) ≡ next_at p
@@ -65,9 +65,9 @@ stop_follows p tail s e is = e ∙ sym (next_same p tail (ap settled (sym e) ∙
 
 -- a record that is given is whole, and what is left behind it is followed by the same octets
 some_whole : (a b c : Bool) (d : List ℕ) (s : Sent) (e f : Stop) (r : Result Sent Stop) → leb (record_end d) (length d) ≡ c → Ok (Some s) ≡ cond a (Ok None) (ask b e (map_ok Some (ask c f r))) → record_end d ≤ length d
-some_whole true b c d s e f r is h = let z : ◌≡◌ {A = ℕ} 0 1 = cc in absurd (omega arith)
-some_whole false false c d s e f r is h = let z : ◌≡◌ {A = ℕ} 0 1 = cc in absurd (omega arith)
-some_whole false true false d s e f r is h = let z : ◌≡◌ {A = ℕ} 0 1 = cc in absurd (omega arith)
+some_whole true b c d s e f r is h = absurd (cc)
+some_whole false false c d s e f r is h = absurd (cc)
+some_whole false true false d s e f r is h = absurd (cc)
 some_whole false true true d s e f r is h = leb-true (record_end d) (length d) is
 
 rest_same : (d tail : List ℕ) → record_end d ≤ length d → drop (record_end d) d ++ tail ≡ drop (record_end (d ++ tail)) (d ++ tail)
@@ -88,9 +88,9 @@ no_tail p tail none = ap (λ l. place_of l p.before) (ap (λ l. p.octets ++ l) n
 -- where no record is given and octets to come may turn that, less than a record is there
 none_empty : (a b : Bool) (d : List ℕ) (e : Stop) (r : Result Sent Stop) → eqb (length d) 0 ≡ a → Ok None ≡ cond a (Ok None) (ask b e (map_ok Some r)) → length d ≡ 0
 none_empty true b d e r is h = eqb-true (length d) 0 is
-none_empty false false d e r is h = let z : ◌≡◌ {A = ℕ} 0 1 = cc in absurd (omega arith)
-none_empty false true d e (Ok s) is h = let z : ◌≡◌ {A = ℕ} 0 1 = cc in absurd (omega arith)
-none_empty false true d e (Err s) is h = let z : ◌≡◌ {A = ℕ} 0 1 = cc in absurd (omega arith)
+none_empty false false d e r is h = absurd (cc)
+none_empty false true d e (Ok s) is h = absurd (cc)
+none_empty false true d e (Err s) is h = absurd (cc)
 
 pub none_short : (p : Place) → Ok None ≡ next_at p → length p.octets < record_end p.octets
 none_short p e = omega (arith, none_empty (eqb (length p.octets) 0) (ltb p.before 999999) p.octets _ _ refl e)
@@ -98,11 +98,11 @@ none_short p e = omega (arith, none_empty (eqb (length p.octets) 0) (ltb p.befor
 stop_short : (a b c g : Bool) (d body : List ℕ) (k : ℕ) (s : Stop) → leb (record_end d) (length d) ≡ c
     → Err s ≡ cond a (Ok None) (ask b (stop AmongFirst 1000000) (map_ok Some (ask c (stop HoldsRecord k) (ok_or (cond g (Some (sent_of body)) None) (stop IsDatagram k)))))
     → turnable s.question ≡ true → length d < record_end d
-stop_short true b c g d body k s is h t = let z : ◌≡◌ {A = ℕ} 0 1 = cc in absurd (omega arith)
-stop_short false false c g d body k s is h t = let q : s ≡ stop AmongFirst 1000000 = cc in let f : false ≡ true = ap (λ x. turnable x.question) (sym q) ∙ t in let z : ◌≡◌ {A = ℕ} 0 1 = cc in absurd (omega arith)
+stop_short true b c g d body k s is h t = absurd (cc)
+stop_short false false c g d body k s is h t = let q : s ≡ stop AmongFirst 1000000 = cc in let f : false ≡ true = ap (λ x. turnable x.question) (sym q) ∙ t in absurd (cc)
 stop_short false true false g d body k s is h t = leb-false (record_end d) (length d) is
-stop_short false true true true d body k s is h t = let z : ◌≡◌ {A = ℕ} 0 1 = cc in absurd (omega arith)
-stop_short false true true false d body k s is h t = let q : s ≡ stop IsDatagram k = cc in let f : false ≡ true = ap (λ x. turnable x.question) (sym q) ∙ t in let z : ◌≡◌ {A = ℕ} 0 1 = cc in absurd (omega arith)
+stop_short false true true true d body k s is h t = absurd (cc)
+stop_short false true true false d body k s is h t = let q : s ≡ stop IsDatagram k = cc in let f : false ≡ true = ap (λ x. turnable x.question) (sym q) ∙ t in absurd (cc)
 
 pub turnable_short : (p : Place) (s : Stop) → Err s ≡ next_at p → turnable s.question ≡ true → length p.octets < record_end p.octets
 turnable_short p s e t =

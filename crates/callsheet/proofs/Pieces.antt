@@ -1,48 +1,47 @@
--- Pieces that were added to a text one after another. Assumes nothing.
-use Rattle.std.proofs.Common.{◌≡◌, ℕ, ◌-◌, ◌≤◌, List, ◌++◌, length, take, drop, Some, None, Err, Result, sym, refl, ap, ◌∙◌, append_assoc, append-nil, arith, length-drop}
-use Rattle.std.proofs.lemmas.List.{take_all}
-use Rattle.datagram.specs.declared.fault.Fault.{Fault}
-use Rattle.datagram.specs.Datagrams.{Datagram}
+-- What was written piece by piece is the text that the definitions make. Assumes nothing.
+use Rattle.std.proofs.Common.{◌≡◌, ℕ, List, [], ◌∷◌, ◌++◌, Some, None, Option, codes, decimal, sym, refl, ap, ◌∙◌, subst, append_assoc, append-nil}
+use Rattle.std.specs.Fmt.{WritesInCalls, IsPlainFormatter, HasWritten}
+use Rattle.std.specs.Fmt.InlineText.{inline_text, IsIntact, AppendsIfIntact}
+use Rattle.std.specs.declared.fmt.InlineText.{InlineText}
+use Rattle.std.specs.List.{FoldsTo, concat}
+use Rattle.std.specs.declared.fmt.Formatter.{Formatter}
+use Rattle.std.specs.Net.Addr.{ipv4_octets}
+use Rattle.std.specs.Net.Socket.{v4_ip, v4_port}
+use Rattle.std.specs.Net.Text.{socket_v4_text}
+use Rattle.std.specs.declared.net.socket_addr.SocketAddrV4.{SocketAddrV4}
 use Rattle.datagram.specs.Lists.{Takes}
 use Rattle.datagram.specs.Payloads.{Payload}
 use Rattle.datagram.proofs.Taking.{taken, none_left}
-use Rattle.callsheet.specs.Text.{Added, payload_text, payload_lines, fault_text, datagram_text}
+use Rattle.callsheet.specs.Text.{spaced, sender_text, payload_text, payload_lines}
 
-pub two : {t t₁ t₂ a b : List ℕ} → Added t a t₁ → Added t₁ b t₂ → Added t (a ++ b) t₂
-two {t} {t₁} {t₂} {a} {b} x y = record { all = y.all ∙ ap (λ u. u ++ b) x.all ∙ append_assoc t a b }
+-- from f to g some of the lines of ps were written, and those of qs are still to come
+pub record Ahead {W : Type 0} (took : W → List ℕ → W → Type 0) (f : Formatter W) (front : List ℕ) (ps : List Payload) (g : Formatter W) (qs : List Payload) : Type 0 where
+  pub written : List ℕ
+  pub wrote : HasWritten took f written g
+  pub all : written ++ payload_lines front qs ≡ payload_lines front ps
 
-pub three : {t t₁ t₂ t₃ a b c : List ℕ} → Added t a t₁ → Added t₁ b t₂ → Added t₂ c t₃ → Added t (a ++ (b ++ c)) t₃
-three x y z = two x (two y z)
+pub line_more : (front w : List ℕ) (ps : List Payload) {qs rs : List Payload} (p : Payload) → Takes qs (Some p) rs → w ++ payload_lines front qs ≡ payload_lines front ps → (w ++ (front ++ payload_text p)) ++ payload_lines front rs ≡ payload_lines front ps
+line_more front w ps {qs} {rs} p t h =
+    append_assoc w (front ++ payload_text p) (payload_lines front rs)
+    ∙ ap (λ u. w ++ u) (append_assoc front (payload_text p) (payload_lines front rs))
+    ∙ ap (λ xs. w ++ payload_lines front xs) (sym (taken p qs rs t))
+    ∙ h
 
-pub five : {t t₁ t₂ t₃ t₄ t₅ a b c d e : List ℕ} → Added t a t₁ → Added t₁ b t₂ → Added t₂ c t₃ → Added t₃ d t₄ → Added t₄ e t₅ → Added t (a ++ (b ++ (c ++ (d ++ e)))) t₅
-five x y z w v = two x (two y (three z w v))
+pub no_more_lines : (front w : List ℕ) (ps : List Payload) {qs rs : List Payload} → Takes qs None rs → w ++ payload_lines front qs ≡ payload_lines front ps → w ≡ payload_lines front ps
+no_more_lines front w ps {qs} {rs} t h = sym (append-nil w) ∙ ap (λ xs. w ++ payload_lines front xs) (sym (none_left qs rs t)) ∙ h
 
--- from some place of an array to its end
-pub to_end : (old new ds x : List ℕ) (at : ℕ) → at ≤ 21 → length ds ≡ 21 → new ≡ old ++ take (21 - at) (drop at ds) → drop at ds ≡ x → Added old x new
-to_end old new ds x at within sized e is = record { all = e ∙ ap (λ t. old ++ t) (take_all (21 - at) (drop at ds) (omega (arith, length-drop at ds)) ∙ is) }
+-- what std writes of a sender, with the numbers before it
+pub front_pieces : (n s port : ℕ) (a : List ℕ) (sender : SocketAddrV4) → ipv4_octets (v4_ip sender) ≡ a → v4_port sender ≡ port
+    → decimal n ++ (codes " " ++ (decimal s ++ (codes " " ++ (socket_v4_text sender ++ codes " ")))) ≡ spaced n ++ (spaced s ++ sender_text a port)
+front_pieces n s port a sender ia ip = rw (ia, ip) (simp append_assoc)
 
--- with the lines of qs still to be added, new is what old is with those of ps
-pub record Ahead (front old : List ℕ) (ps : List Payload) (new : List ℕ) (qs : List Payload) : Type 0 where
-  pub all : new ++ payload_lines front qs ≡ old ++ payload_lines front ps
+-- what an inline text holds after one write, which makes some calls
+inline_calls : {n : ℕ} (s : InlineText n) (parts : List (List ℕ)) (t : InlineText n) → FoldsTo AppendsIfIntact s parts t → AppendsIfIntact s (concat parts) t
+inline_calls s [] t same intact = (subst IsIntact same intact, ap inline_text (sym same) ∙ sym (append-nil (inline_text s)))
+inline_calls s (x ∷ parts) t calls intact =
+    let first = calls.1 intact in
+    let rest = inline_calls calls.0 parts t calls.2 first.0 in
+    (rest.0, rest.1 ∙ ap (λ l. l ++ concat parts) first.1 ∙ append_assoc (inline_text s) x (concat parts))
 
-pub none_yet : {front old : List ℕ} {ps : List Payload} → Ahead front old ps old ps
-none_yet = record { all = refl }
-
-pub line_more : {front old new new₁ new₂ : List ℕ} {ps qs rs : List Payload} (p : Payload) → Takes qs (Some p) rs → new₁ ≡ new ++ front → Added new₁ (payload_text p) new₂ → Ahead front old ps new qs → Ahead front old ps new₂ rs
-line_more {front} {old} {new} {new₁} {new₂} {ps} {qs} {rs} p t first second h =
-    let joined = two {t = new} {a = front} {b = payload_text p} (record { all = first }) second in
-    record {
-      all =
-          ap (λ u. u ++ payload_lines front rs) joined.all
-          ∙ append_assoc new (front ++ payload_text p) (payload_lines front rs)
-          ∙ ap (λ u. new ++ u) (append_assoc front (payload_text p) (payload_lines front rs))
-          ∙ ap (λ xs. new ++ payload_lines front xs) (sym (taken p qs rs t))
-          ∙ h.all;
-    }
-
-pub no_more_lines : {front old new : List ℕ} {ps qs rs : List Payload} → Takes qs None rs → Ahead front old ps new qs → Added old (payload_lines front ps) new
-no_more_lines {front} {old} {new} {ps} {qs} {rs} t h =
-    record { all = sym (append-nil new) ∙ ap (λ xs. new ++ payload_lines front xs) (sym (none_left qs rs t)) ∙ h.all }
-
-pub fault_lines : {old new : List ℕ} (front : List ℕ) (f : Fault) (r : Result Datagram Fault) → Err f ≡ r → Added old (front ++ fault_text f) new → Added old (datagram_text front r) new
-fault_lines front f r e a = rw (← e) a
+pub inline_written : {n : ℕ} (s t : InlineText n) (bs : List ℕ) → inline_text s ≡ [] → IsIntact s → WritesInCalls AppendsIfIntact s bs t → inline_text t ≡ bs
+inline_written s t bs none intact w = (inline_calls s w.parts t w.calls intact).1 ∙ ap (λ l. l ++ concat w.parts) none ∙ w.whole

@@ -1,5 +1,5 @@
 -- What a sheet in the making says. Assumes nothing.
-use Rattle.std.specs.Prelude.{◌≡◌, ℕ, Bool, List, [], vec_items}
+use Rattle.std.specs.Prelude.{◌≡◌, ℕ, Bool, List, [], vec_items, string_bytes}
 use Rattle.capture.specs.Records.{Place, place_of}
 use Rattle.callsheet.specs.declared.sheet.Sheet.{Sheet}
 use Rattle.callsheet.specs.Text.{column_line}
@@ -10,7 +10,7 @@ abbrev pub place_in : Sheet → Place
 place_in s = place_of (vec_items s.unread) s.records
 
 abbrev pub text_in : Sheet → List ℕ
-text_in s = vec_items s.text
+text_in s = string_bytes s.text
 
 pub record Begun (s : Sheet) : Type 0 where
   pub place : place_in s ≡ place_of [] 0

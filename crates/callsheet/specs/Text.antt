@@ -1,5 +1,5 @@
 -- The text of a call sheet, from the octets of a capture. Assumes nothing.
-use Rattle.std.specs.Prelude.{◌≡◌, ℕ, ◌+◌, List, [], ◌∷◌, ◌++◌, length, Some, None, Ok, Err, codes, decimal, Option, Result}
+use Rattle.std.specs.Prelude.{ℕ, ◌+◌, List, [], ◌∷◌, ◌++◌, length, Some, None, Ok, Err, codes, decimal, Option, Result}
 use Rattle.datagram.specs.declared.fault.Fault.{Fault}
 use Rattle.datagram.specs.Datagrams.{Datagram, read}
 use Rattle.datagram.specs.Faults as faults
@@ -9,10 +9,6 @@ use Rattle.datagram.specs.Structures.{type_of}
 use Rattle.capture.specs.declared.stop.Stop.{Stop}
 use Rattle.capture.specs.Records.{Sent, Capture, capture_of}
 use Rattle.capture.specs.Stops as stops
-
--- a text before and after a piece was added to its end
-pub record Added (old piece new : List ℕ) : Type 0 where
-  pub all : new ≡ old ++ piece
 
 -- a number, and the sign that follows it: a space, a point, a colon or a newline
 abbrev pub ended : ℕ → ℕ → List ℕ

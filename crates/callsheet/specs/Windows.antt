@@ -3,8 +3,6 @@ use Rattle.std.specs.Prelude.{◌≡◌, ℕ, zero, suc, ◌+◌, ◌-◌, ◌<�
 use Rattle.capture.specs.declared.stop.Stop.{Stop}
 use Rattle.capture.specs.Records.{Sent, Place, place_of, next_at, place_after}
 use Rattle.capture.specs.Stops.{turnable}
-use Rattle.callsheet.specs.declared.window.Step.{Step}
-use Rattle.callsheet.specs.declared.window.Step.TheVariants as step
 use Rattle.callsheet.specs.Text.{record_text, stop_text}
 
 -- what comes of the octets that are at hand: lines, whether octets to come may add to them, and the place after what was whole
@@ -39,19 +37,3 @@ lines_over p [] = (window_at true p).text
 lines_over p (octets ∷ later) =
     let w = window_at false (place_of (p.octets ++ octets) p.before) in
     w.text ++ cond w.more (lines_over w.place later) []
-
--- what a step of the code leaves to be done
-abbrev pub after_step : Step → Bool → List ℕ → Place → Window
-after_step step.Record last t p = preceded t (window_at last p)
-after_step step.Unfinished last t p = window t true p
-after_step step.End last t p = window t false p
-
--- a record further, and not past the last one that is allowed
-pub record Further (p q : Place) : Type 0 where
-  pub less : p.before < 999999
-  pub next : q.before ≡ p.before + 1
-
-abbrev pub Moves : Step → Place → Place → Type 0
-Moves step.Record p q = Further p q
-Moves step.Unfinished p q = Unit {0}
-Moves step.End p q = Unit {0}

@@ -3,7 +3,6 @@
 
 mod example;
 mod lines;
-mod number;
 mod sheet;
 mod whole;
 mod window;

@@ -1,122 +1,135 @@
 // The lines of one record, and the line of a stop.
-ghost use Rattle.std.specs.Prelude.{◌≡◌, IfOk, OnOk};
+ghost use Rattle.std.specs.Prelude.{◌≡◌, ◌++◌, IfOk, Some, string_bytes};
+ghost use Rattle.std.specs.Fmt.{WritesOnOk};
+ghost use Rattle.std.specs.Fmt.InlineText.{inline_text};
 ghost use Rattle.datagram.specs.Views.{payload_says, payloads_say};
 ghost use Rattle.capture.specs.Views.{record_says};
 ghost use Rattle.callsheet.specs.Laws.{RecordsMakeTheSheet};
-ghost use Rattle.callsheet.specs.Text.{Added, sender_text, front_text, payload_text, payload_lines, fault_text, record_text, stop_text, column_line};
+ghost use Rattle.callsheet.specs.Text.{spaced, front_text, payload_text, payload_lines, record_text, stop_text};
 
-use crate::number::add_number;
 use capture::{Record, Stop};
-use datagram::{Datagram, Fault, Payload, Payloads};
+use datagram::{Datagram, Payload, Payloads};
 use std::alloc::{AllocError, Global};
+use std::fmt;
+use std::fmt::{InlineText, Write};
+use std::net::{Ipv4Addr, SocketAddrV4};
 
-pub(crate) fn add_column_line(text: &mut Vec<u8>) -> Result<(), AllocError>
-    ensures { OnOk result (Added text.old.items column_line text.new.items) }
-{
-    text.extend_from_slice(b"rec sec from num type call len\n")?;
-    Ok(())
+// What each sheet begins with.
+pub(crate) const COLUMN_LINE: &str = "rec sec from num type call len\n";
+
+// Room for the front of a line with the number of a datagram behind it: the largest numbers have 10, 10, 3, 3, 3, 3, 5 and 10
+// digits, and a sign follows each.
+const LONGEST_FRONT: usize = 55;
+
+// What each line of record `number` begins with.
+#[derive(Clone, Copy)]
+pub(crate) struct Front<'f> {
+    pub(crate) number: u32,
+    pub(crate) record: &'f Record<'f>,
 }
 
-fn add_sender(text: &mut Vec<u8>, address: [u8; 4], port: u16) -> Result<(), AllocError>
-    ensures { OnOk result (Added text.old.items (sender_text address port) text.new.items) }
-{
-    add_number(text, address[0] as usize, b'.')?;
-    add_number(text, address[1] as usize, b'.')?;
-    add_number(text, address[2] as usize, b'.')?;
-    add_number(text, address[3] as usize, b':')?;
-    add_number(text, port as usize, b' ')?;
-    Ok(())
+impl fmt::Display for Front<'_> {
+    ghost output = { λ s. Some (front_text s.number (record_says s.«record».now)) };
+
+    fn fmt<W: fmt::Write>(&self, f: &mut fmt::Formatter<W>) -> fmt::Result {
+        let sender = SocketAddrV4::new(Ipv4Addr::from(self.record.address), self.record.port);
+        write!(f, "{} {} {sender} ", self.number, self.record.seconds)
+    }
 }
 
-// What the lines of record `number` begin with.
-fn add_front(text: &mut Vec<u8>, number: u32, record: &Record) -> Result<(), AllocError>
-    ensures { OnOk result (Added text.old.items (front_text number (record_says «record».now)) text.new.items) }
-{
-    add_number(text, number as usize, b' ')?;
-    add_number(text, record.seconds as usize, b' ')?;
-    add_sender(text, record.address, record.port)?;
-    Ok(())
+impl Front<'_> {
+    // The same with the number of an accepted datagram behind it. It is printed once for all lines of the datagram, as most of
+    // a line is its front.
+    fn of_datagram(self, number: u32) -> Result<InlineText<LONGEST_FRONT>, fmt::Error>
+        ensures { IfOk result (λ t. inline_text t ≡ front_text self.entry.number (record_says self.entry.«record».now) ++ spaced number) }
+    {
+        let mut text = InlineText::new();
+        write!(text, "{self}{number} ")?;
+        Ok(text)
+    }
 }
 
-fn add_payload(text: &mut Vec<u8>, payload: &Payload) -> Result<(), AllocError>
-    ensures { OnOk result (Added text.old.items (payload_text (payload_says payload.now)) text.new.items) }
-{
-    add_number(text, payload.content.kind() as usize, b' ')?;
-    add_number(text, payload.crv as usize, b' ')?;
-    add_number(text, payload.data.len(), b'\n')?;
-    Ok(())
+// The lines of record `number`: one for each payload of a datagram that is accepted, or one for the fault of one that is refused.
+#[derive(Clone, Copy)]
+pub(crate) struct Lines<'f>(pub(crate) Front<'f>);
+
+impl fmt::Display for Lines<'_> {
+    ghost output = { λ s. Some (record_text s.0.number (record_says s.0.«record».now)) };
+
+    fn fmt<W: fmt::Write>(&self, f: &mut fmt::Formatter<W>) -> fmt::Result {
+        let front = self.0;
+        match Datagram::read(front.record.datagram) {
+            Ok(datagram) => {
+                let front = front.of_datagram(datagram.number)?;
+                write_payloads(f, front.as_str(), datagram.payloads)
+            }
+            Err(fault) => writeln!(
+                f,
+                "{front}fault {} {}",
+                fault.question.number(),
+                fault.offset
+            ),
+        }
+    }
 }
 
 // A line for each payload, each with the same front.
-fn add_payloads(text: &mut Vec<u8>, front: &[u8], payloads: Payloads) -> Result<(), AllocError>
-    ensures { OnOk result (Added text.old.items (payload_lines front.now (payloads_say payloads.entry)) text.new.items) }
+fn write_payloads<W: fmt::Write>(
+    f: &mut fmt::Formatter<W>,
+    front: &str,
+    payloads: Payloads,
+) -> fmt::Result
+    ensures { WritesOnOk W.write_str_gives f.old result (payload_lines front.now (payloads_say payloads.entry)) f.new }
 {
     for payload in payloads {
-        text.extend_from_slice(front)?;
-        add_payload(text, &payload)?;
+        let line = PayloadLine(payload);
+        write!(f, "{front}{line}")?;
     }
     Ok(())
 }
 
-fn add_fault(text: &mut Vec<u8>, fault: Fault) -> Result<(), AllocError>
-    ensures { OnOk result (Added text.old.items (fault_text fault) text.new.items) }
-{
-    text.extend_from_slice(b"fault ")?;
-    add_number(text, fault.question.number() as usize, b' ')?;
-    add_number(text, fault.offset, b'\n')?;
-    Ok(())
+// What the line of a payload ends with.
+#[derive(Clone, Copy)]
+struct PayloadLine<'d>(Payload<'d>);
+
+impl fmt::Display for PayloadLine<'_> {
+    ghost output = { λ s. Some (payload_text (payload_says s.0)) };
+
+    fn fmt<W: fmt::Write>(&self, f: &mut fmt::Formatter<W>) -> fmt::Result {
+        let PayloadLine(payload) = self;
+        writeln!(
+            f,
+            "{} {} {}",
+            payload.content.kind(),
+            payload.crv,
+            payload.data.len()
+        )
+    }
 }
 
-pub(crate) fn add_stop(text: &mut Vec<u8>, stop: Stop) -> Result<(), AllocError>
-    ensures { OnOk result (Added text.old.items (stop_text stop) text.new.items) }
-{
-    text.extend_from_slice(b"stop ")?;
-    add_number(text, stop.question.number() as usize, b' ')?;
-    add_number(text, stop.record as usize, b'\n')?;
-    Ok(())
-}
+// The line that ends the sheet of a capture which cannot be read on.
+#[derive(Clone, Copy)]
+pub(crate) struct StopLine(pub(crate) Stop);
 
-// The lines of record `number`. The front of its lines is made once, in `front`, and what that held is lost.
-pub(crate) fn add_record(
-    text: &mut Vec<u8>,
-    front: &mut Vec<u8>,
-    number: u32,
-    record: &Record,
-) -> Result<(), AllocError>
-    ensures { OnOk result (Added text.old.items (record_text number (record_says «record».now)) text.new.items) }
-{
-    match Datagram::read(record.datagram) {
-        Ok(datagram) => {
-            front.clear();
-            add_front(front, number, record)?;
-            add_number(front, datagram.number as usize, b' ')?;
-            add_payloads(text, front.as_slice(), datagram.payloads)?;
-            Ok(())
-        }
-        Err(fault) => {
-            add_front(text, number, record)?;
-            add_fault(text, fault)?;
-            Ok(())
-        }
+impl fmt::Display for StopLine {
+    ghost output = { λ s. Some (stop_text s.0) };
+
+    fn fmt<W: fmt::Write>(&self, f: &mut fmt::Formatter<W>) -> fmt::Result {
+        writeln!(f, "stop {} {}", self.0.question.number(), self.0.record)
     }
 }
 
 // The lines of one record of a capture, which is its record `number`.
-pub fn record_lines(heap: Global, number: u32, record: &Record) -> Result<Vec<u8>, AllocError>
-    ensures lines { IfOk result (λ lines. lines.items ≡ record_text number (record_says «record».now)) }
+pub fn record_lines(heap: Global, number: u32, record: &Record) -> Result<String, AllocError>
+    ensures lines { IfOk result (λ lines. string_bytes lines ≡ record_text number (record_says «record».now)) }
     ensures law { RecordsMakeTheSheet }
 {
-    let mut lines = Vec::new(heap);
-    let mut front = Vec::new(heap);
-    add_record(&mut lines, &mut front, number, record)?;
-    Ok(lines)
+    Lines(Front { number, record }).to_string(heap)
 }
 
 // The line that ends the sheet of a capture which cannot be read on.
-pub fn stop_line(heap: Global, stop: Stop) -> Result<Vec<u8>, AllocError>
-    ensures { IfOk result (λ line. line.items ≡ stop_text stop) }
+pub fn stop_line(heap: Global, stop: Stop) -> Result<String, AllocError>
+    ensures { IfOk result (λ line. string_bytes line ≡ stop_text stop) }
 {
-    let mut line = Vec::new(heap);
-    add_stop(&mut line, stop)?;
-    Ok(line)
+    StopLine(stop).to_string(heap)
 }

@@ -8,18 +8,14 @@ fn stop(octets: &[u8], before: u32) -> Option<(u8, u32)> {
         rest: octets,
         before,
     };
-    match records.next() {
-        Ok(_) => None,
-        Err(stop) => Some((stop.question.number(), stop.record)),
-    }
+    let stop = records.next().err()?;
+    Some((stop.question.number(), stop.record))
 }
 
 // A record of kind 1 that says `length`, with as many octets behind it as there is room for.
 fn record(length: u16) -> [u8; 4200] {
     let mut octets = [0; 4200];
-    let [low, high] = length.to_le_bytes();
-    octets[0] = low;
-    octets[1] = high;
+    octets[0..2].copy_from_slice(&length.to_le_bytes());
     octets[2] = 1;
     octets
 }
@@ -71,10 +67,7 @@ fn the_fields_of_a_record(rt: HostRuntime) -> Result<(), Fail> {
         rest: &octets,
         before: 0,
     };
-    let Ok(first) = records.next() else {
-        return Err(Fail::new("stopped"));
-    };
-    let Some(first) = first else {
+    let Ok(Some(first)) = records.next() else {
         return Err(Fail::new("no record"));
     };
     assert_eq!(rt; first.address, [10, 0, 0, 7]);

@@ -7,18 +7,15 @@ use std::test::Fail;
 fn two_records(rt: HostRuntime) -> Result<(), Fail> {
     let sheet = sheet_of(rt.alloc(), &callsheet::two_records())?;
     let expected =
-        b"rec sec from num type call len\n1 60 10.0.0.7:1720 5 1 1 2\n2 61 10.0.0.7:1720 fault 21 3\n";
-    assert_eq!(rt; sheet.as_slice(), expected.as_slice());
+        "rec sec from num type call len\n1 60 10.0.0.7:1720 5 1 1 2\n2 61 10.0.0.7:1720 fault 21 3\n";
+    assert_eq!(rt; sheet.as_str(), expected);
     Ok(())
 }
 
 #[test]
 fn an_empty_capture(rt: HostRuntime) -> Result<(), Fail> {
     let sheet = sheet_of(rt.alloc(), &[])?;
-    assert_eq!(rt;
-        sheet.as_slice(),
-        b"rec sec from num type call len\n".as_slice()
-    );
+    assert_eq!(rt; sheet.as_str(), "rec sec from num type call len\n");
     Ok(())
 }
 
@@ -26,8 +23,8 @@ fn an_empty_capture(rt: HostRuntime) -> Result<(), Fail> {
 fn one_octet(rt: HostRuntime) -> Result<(), Fail> {
     let sheet = sheet_of(rt.alloc(), &[0x18])?;
     assert_eq!(rt;
-        sheet.as_slice(),
-        b"rec sec from num type call len\nstop 40 1\n".as_slice()
+        sheet.as_str(),
+        "rec sec from num type call len\nstop 40 1\n"
     );
     Ok(())
 }
@@ -37,8 +34,8 @@ fn a_record_that_breaks_off(rt: HostRuntime) -> Result<(), Fail> {
     let octets = callsheet::two_records();
     let sheet = sheet_of(rt.alloc(), &octets[0..42])?;
     assert_eq!(rt;
-        sheet.as_slice(),
-        b"rec sec from num type call len\n1 60 10.0.0.7:1720 5 1 1 2\nstop 40 2\n".as_slice()
+        sheet.as_str(),
+        "rec sec from num type call len\n1 60 10.0.0.7:1720 5 1 1 2\nstop 40 2\n"
     );
     Ok(())
 }
@@ -56,8 +53,8 @@ fn the_largest_fields(rt: HostRuntime) -> Result<(), Fail> {
     };
     let lines = record_lines(rt.alloc(), 999_999, &record)?;
     let expected =
-        b"999999 4294967295 255.255.255.255:65535 16777215 127 65535 0\n999999 4294967295 255.255.255.255:65535 16777215 0 0 1\n";
-    assert_eq!(rt; lines.as_slice(), expected.as_slice());
+        "999999 4294967295 255.255.255.255:65535 16777215 127 65535 0\n999999 4294967295 255.255.255.255:65535 16777215 0 0 1\n";
+    assert_eq!(rt; lines.as_str(), expected);
     Ok(())
 }
 
@@ -70,7 +67,7 @@ fn an_empty_datagram(rt: HostRuntime) -> Result<(), Fail> {
         datagram: &[],
     };
     let lines = record_lines(rt.alloc(), 1, &record)?;
-    assert_eq!(rt; lines.as_slice(), b"1 0 0.0.0.0:0 fault 21 0\n".as_slice());
+    assert_eq!(rt; lines.as_str(), "1 0 0.0.0.0:0 fault 21 0\n");
     Ok(())
 }
 
@@ -81,6 +78,6 @@ fn one_record_too_many(rt: HostRuntime) -> Result<(), Fail> {
         record: 1_000_000,
     };
     let line = stop_line(rt.alloc(), stop)?;
-    assert_eq!(rt; line.as_slice(), b"stop 42 1000000\n".as_slice());
+    assert_eq!(rt; line.as_str(), "stop 42 1000000\n");
     Ok(())
 }

@@ -4,21 +4,16 @@ use std::alloc::{AllocError, Global};
 use std::test::Fail;
 
 // The sheet of two windows; the third, to which nothing comes, is the last.
-fn in_two(heap: Global, first: &[u8], second: &[u8]) -> Result<Vec<u8>, AllocError> {
-    let mut whole = Vec::new(heap);
+fn in_two(heap: Global, first: &[u8], second: &[u8]) -> Result<String, AllocError> {
     let mut sheet = Sheet::begin(heap)?;
-    whole.extend_from_slice(sheet.text())?;
-    sheet.unread.extend_from_slice(first)?;
-    let mut more = sheet.read_window(false)?;
-    whole.extend_from_slice(sheet.text())?;
-    if more {
-        sheet.unread.extend_from_slice(second)?;
-        more = sheet.read_window(false)?;
-        whole.extend_from_slice(sheet.text())?;
-    }
-    if more {
-        let _ = sheet.read_window(true)?;
-        whole.extend_from_slice(sheet.text())?;
+    let mut whole = String::from_str(heap, sheet.text())?;
+    for (octets, last) in [(first, false), (second, false), (&[], true)] {
+        sheet.unread.extend_from_slice(octets)?;
+        let more = sheet.read_window(last)?;
+        whole.push_str(sheet.text())?;
+        if !more {
+            break;
+        }
     }
     Ok(whole)
 }
@@ -30,7 +25,7 @@ fn cut_at_every_octet(rt: HostRuntime) -> Result<(), Fail> {
     for at in 0..44usize {
         let (first, second) = octets.split_at(at);
         let sheet = in_two(rt.alloc(), first, second)?;
-        assert_eq!(rt; sheet.as_slice(), expected.as_slice());
+        assert_eq!(rt; sheet.as_str(), expected.as_str());
     }
     Ok(())
 }
@@ -41,8 +36,8 @@ fn a_stop_in_the_first_window(rt: HostRuntime) -> Result<(), Fail> {
     octets[2] = 2;
     let sheet = in_two(rt.alloc(), &octets[0..30], &octets[30..])?;
     assert_eq!(rt;
-        sheet.as_slice(),
-        b"rec sec from num type call len\nstop 41 1\n".as_slice()
+        sheet.as_str(),
+        "rec sec from num type call len\nstop 41 1\n"
     );
     Ok(())
 }
@@ -53,11 +48,11 @@ fn what_is_not_whole_waits(rt: HostRuntime) -> Result<(), Fail> {
     let mut sheet = Sheet::begin(rt.alloc())?;
     sheet.unread.extend_from_slice(&octets[0..30])?;
     assert!(rt; sheet.read_window(false)?);
-    assert_eq!(rt; sheet.text(), b"1 60 10.0.0.7:1720 5 1 1 2\n".as_slice());
+    assert_eq!(rt; sheet.text(), "1 60 10.0.0.7:1720 5 1 1 2\n");
     assert_eq!(rt; sheet.unread.len(), 4);
     assert!(rt; sheet.read_window(false)?);
     assert_eq!(rt; sheet.text().len(), 0);
     assert!(rt; !sheet.read_window(true)?);
-    assert_eq!(rt; sheet.text(), b"stop 40 2\n".as_slice());
+    assert_eq!(rt; sheet.text(), "stop 40 2\n");
     Ok(())
 }

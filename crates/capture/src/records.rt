@@ -19,7 +19,8 @@ pub struct Records<'f> {
 }
 
 impl<'f> Records<'f> {
-    // The next record; `None` where the capture ends with its last one. A stop leaves the place as it was.
+    // The next record; `None` where the capture ends with its last one. A stop leaves the place as it was, so that the octets
+    // to come may turn it. So this is no `Iterator`: after a stop a `for` would ask at the same place again, and never end.
     pub fn next(&mut self) -> Result<Option<Record<'f>>, Stop>
         ensures gives { map_ok (option_map record_says) result ≡ next_at (place_says self.old) }
         ensures moves { place_says self.new ≡ place_after (place_says self.old) }
@@ -28,32 +29,14 @@ impl<'f> Records<'f> {
             return Ok(None);
         }
         if self.before >= MOST {
-            return Err(Stop {
-                question: Question::AmongFirst,
-                record: MOST + 1,
-            });
+            return Err(Question::AmongFirst.stop(MOST + 1));
         }
         let number = self.before + 1;
-        let &[low, high, ref after @ ..] = self.rest else {
-            return Err(Stop {
-                question: Question::HoldsRecord,
-                record: number,
-            });
-        };
-        let length = u16::from_le_bytes([low, high]) as usize;
-        if after.len() < length {
-            return Err(Stop {
-                question: Question::HoldsRecord,
-                record: number,
-            });
-        }
-        let (body, rest) = after.split_at(length);
-        let Some(record) = Record::read(body) else {
-            return Err(Stop {
-                question: Question::IsDatagram,
-                record: number,
-            });
-        };
+        let short = Question::HoldsRecord.stop(number);
+        let (length, after) = self.rest.split_first_chunk().ok_or(short)?;
+        let length = u16::from_le_bytes(*length) as usize;
+        let (body, rest) = after.split_at_checked(length).ok_or(short)?;
+        let record = Record::read(body).ok_or(Question::IsDatagram.stop(number))?;
         self.rest = rest;
         self.before = number;
         Ok(Some(record))

@@ -1,6 +1,6 @@
 // The questions that a record must pass, and the answer that a failed one gives.
 ghost use Rattle.std.specs.Prelude.{◌≡◌};
-ghost use Rattle.capture.specs.Stops.{number_of, turnable};
+ghost use Rattle.capture.specs.Stops.{number_of, turnable, stop};
 
 // Each question by what it asks for. The number is the one that the outside sees.
 #[derive(Clone, Copy, Debug, PartialEq, Eq)]
@@ -22,6 +22,16 @@ impl Question {
         ensures { result ≡ turnable self }
     {
         matches!(self, Question::HoldsRecord)
+    }
+
+    // The answer no, of `record`.
+    pub(crate) fn stop(self, record: u32) -> Stop
+        ensures { result ≡ stop self «record» }
+    {
+        Stop {
+            question: self,
+            record,
+        }
     }
 }
 

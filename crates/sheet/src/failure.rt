@@ -1,13 +1,16 @@
 // What can keep the program from its sheet.
 use std::alloc::AllocError;
+use std::error::Error;
 use std::{fmt, io};
 
-#[derive(Drop)]
+#[derive(Debug, Drop)]
 pub enum Failure {
     Reading(io::Error),
     Writing(io::Error),
     Memory,
 }
+
+impl Error for Failure {}
 
 impl From<AllocError> for Failure {
     fn from(_: AllocError) -> Failure {

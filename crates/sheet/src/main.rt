@@ -13,24 +13,23 @@ const WINDOW: u64 = 65536;
 
 // Adds the octets of the next window to those that are unread, and answers how many came: none at the capture's end.
 fn read_more(rt: &HostRuntime, sheet: &mut Sheet) -> Result<usize, Failure> {
-    match rt.stdin().take(WINDOW).read_to_end(&mut sheet.unread) {
-        Ok(came) => Ok(came),
-        Err(e) => Err(Failure::Reading(e)),
-    }
+    let mut window = rt.stdin().take(WINDOW);
+    window
+        .read_to_end(&mut sheet.unread)
+        .map_err(Failure::Reading)
 }
 
 fn write_text(rt: &HostRuntime, sheet: &Sheet) -> Result<(), Failure> {
-    match rt.stdout().write_all(sheet.text()) {
-        Ok(()) => Ok(()),
-        Err(e) => Err(Failure::Writing(e)),
-    }
+    let text = sheet.text().as_bytes();
+    rt.stdout().write_all(text).map_err(Failure::Writing)
 }
 
 fn print_sheet(rt: &HostRuntime) -> Result<(), Failure> {
     let mut sheet = Sheet::begin(rt.alloc())?;
     let mut came = read_more(rt, &mut sheet)?;
     write_text(rt, &sheet)?;
-    // A loop that reads has to count its turns: nothing says that an input ends.
+    // The turns are counted, since a loop without end needs the handle Wait, which no program here has, and nothing says that an
+    // input ends.
     for _ in 0..u64::MAX {
         let more = sheet.read_window(came == 0)?;
         write_text(rt, &sheet)?;

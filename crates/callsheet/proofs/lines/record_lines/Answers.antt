@@ -1,9 +1,5 @@
-use Rattle.std.proofs.Common.{rules}
 use Rattle.callsheet.proofs.Taking.{records_make_the_sheet}
 use Rattle.callsheet.proofs.lines.record_lines.Goals as goal
 
-pub returns-in_err-add_record : goal.returns-in_err-add_record
-returns-in_err-add_record c = record { lines = search rules; law = records_make_the_sheet }
-
-pub returns : goal.returns
-returns c = record { lines = search rules; law = records_make_the_sheet }
+pub returns-clause-law : goal.returns-clause-law
+returns-clause-law c = records_make_the_sheet

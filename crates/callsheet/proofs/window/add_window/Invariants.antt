@@ -1,13 +1,13 @@
-use Rattle.std.proofs.Common.{◌≡◌, ◌-◌, vec_items}
+use Rattle.std.proofs.Common.{◌≡◌, ◌-◌, string_bytes}
 use Rattle.capture.specs.Views.{place_says}
 use Rattle.callsheet.specs.Windows.{window_at, preceded}
 use Rattle.callsheet.proofs.window.add_window.Given as goal
 
 -- what is left of the window gives the answer, along with what was added
-abbrev pub invariant-loop : goal.invariant-loop
-invariant-loop l =
-    preceded (vec_items l.initial.text) (window_at l.last (place_says l.initial.records))
-    ≡ preceded (vec_items l.text) (window_at l.last (place_says l.records))
+abbrev pub invariant-loop-record : goal.invariant-loop-record
+invariant-loop-record l =
+    preceded (string_bytes l.initial.text) (window_at l.last (place_says l.initial.records))
+    ≡ preceded (string_bytes l.text) (window_at l.last (place_says l.records))
 
-abbrev pub decreases-loop : goal.decreases-loop
-decreases-loop l = 999999 - (place_says l.records).before
+abbrev pub decreases-loop-record : goal.decreases-loop-record
+decreases-loop-record l = 999999 - (place_says l.records).before
