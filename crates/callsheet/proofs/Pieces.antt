@@ -1,5 +1,5 @@
 -- What was written piece by piece is the text that the definitions make. Assumes nothing.
-use Rattle.std.proofs.Common.{◌≡◌, ℕ, List, [], ◌∷◌, ◌++◌, Some, None, Option, codes, decimal, sym, refl, ap, ◌∙◌, subst, append_assoc, append-nil}
+use Rattle.std.proofs.Common.{◌≡◌, ℕ, List, [], ◌∷◌, ◌++◌, codes, decimal, sym, refl, ap, ◌∙◌, subst, append_assoc, append-nil}
 use Rattle.std.specs.Fmt.{WritesInCalls, IsPlainFormatter, HasWritten}
 use Rattle.std.specs.Fmt.InlineText.{inline_text, IsIntact, AppendsIfIntact}
 use Rattle.std.specs.declared.fmt.InlineText.{InlineText}
@@ -9,9 +9,7 @@ use Rattle.std.specs.Net.Addr.{ipv4_octets}
 use Rattle.std.specs.Net.Socket.{v4_ip, v4_port}
 use Rattle.std.specs.Net.Text.{socket_v4_text}
 use Rattle.std.specs.declared.net.socket_addr.SocketAddrV4.{SocketAddrV4}
-use Rattle.datagram.specs.Lists.{Takes}
 use Rattle.datagram.specs.Payloads.{Payload}
-use Rattle.datagram.proofs.Taking.{taken, none_left}
 use Rattle.callsheet.specs.Text.{spaced, sender_text, payload_text, payload_lines}
 
 -- from f to g some of the lines of ps were written, and those of qs are still to come
@@ -20,15 +18,15 @@ pub record Ahead {W : Type 0} (took : W → List ℕ → W → Type 0) (f : Form
   pub wrote : HasWritten took f written g
   pub all : written ++ payload_lines front qs ≡ payload_lines front ps
 
-pub line_more : (front w : List ℕ) (ps : List Payload) {qs rs : List Payload} (p : Payload) → Takes qs (Some p) rs → w ++ payload_lines front qs ≡ payload_lines front ps → (w ++ (front ++ payload_text p)) ++ payload_lines front rs ≡ payload_lines front ps
+pub line_more : (front w : List ℕ) (ps : List Payload) {qs rs : List Payload} (p : Payload) → qs ≡ p ∷ rs → w ++ payload_lines front qs ≡ payload_lines front ps → (w ++ (front ++ payload_text p)) ++ payload_lines front rs ≡ payload_lines front ps
 line_more front w ps {qs} {rs} p t h =
     append_assoc w (front ++ payload_text p) (payload_lines front rs)
     ∙ ap (λ u. w ++ u) (append_assoc front (payload_text p) (payload_lines front rs))
-    ∙ ap (λ xs. w ++ payload_lines front xs) (sym (taken p qs rs t))
+    ∙ ap (λ xs. w ++ payload_lines front xs) (sym t)
     ∙ h
 
-pub no_more_lines : (front w : List ℕ) (ps : List Payload) {qs rs : List Payload} → Takes qs None rs → w ++ payload_lines front qs ≡ payload_lines front ps → w ≡ payload_lines front ps
-no_more_lines front w ps {qs} {rs} t h = sym (append-nil w) ∙ ap (λ xs. w ++ payload_lines front xs) (sym (none_left qs rs t)) ∙ h
+pub no_more_lines : (front w : List ℕ) (ps : List Payload) {qs : List Payload} → qs ≡ [] → w ++ payload_lines front qs ≡ payload_lines front ps → w ≡ payload_lines front ps
+no_more_lines front w ps {qs} t h = sym (append-nil w) ∙ ap (λ xs. w ++ payload_lines front xs) (sym t) ∙ h
 
 -- what std writes of a sender, with the numbers before it
 pub front_pieces : (n s port : ℕ) (a : List ℕ) (sender : SocketAddrV4) → ipv4_octets (v4_ip sender) ≡ a → v4_port sender ≡ port
