@@ -1,5 +1,5 @@
 -- However a capture is cut into windows, their lines make its sheet. Assumes nothing.
-use Rattle.std.proofs.Common.{◌≡◌, ℕ, zero, suc, ◌+◌, ◌-◌, ◌<◌, Bool, true, false, cond, not, ◌||◌, List, [], ◌∷◌, ◌++◌, length, Some, None, Ok, Err, Option, Result, sym, refl, ap, ◌∙◌, subst, append_assoc, append-nil, arith}
+use Rattle.std.proofs.Common.{◌≡◌, ℕ, ◌+◌, ◌<◌, Bool, true, false, cond, not, ◌||◌, List, [], ◌∷◌, ◌++◌, length, Some, None, Ok, Err, sym, refl, ap, ◌∙◌, append_assoc, append-nil}
 use Rattle.capture.specs.declared.stop.Stop.{Stop}
 use Rattle.capture.specs.Layout.{record_end}
 use Rattle.capture.specs.Records.{Sent, Place, place_of, next_at, place_after}

@@ -1,6 +1,6 @@
 -- What was written piece by piece is the text that the definitions make. Assumes nothing.
-use Rattle.std.proofs.Common.{◌≡◌, ℕ, List, [], ◌∷◌, ◌++◌, codes, decimal, sym, refl, ap, ◌∙◌, subst, append_assoc, append-nil}
-use Rattle.std.specs.Fmt.{WritesInCalls, IsPlainFormatter, HasWritten}
+use Rattle.std.proofs.Common.{◌≡◌, ℕ, List, [], ◌∷◌, ◌++◌, codes, decimal, sym, ap, ◌∙◌, subst, append_assoc, append-nil}
+use Rattle.std.specs.Fmt.{WritesInCalls, HasWritten}
 use Rattle.std.specs.Fmt.InlineText.{inline_text, IsIntact, AppendsIfIntact}
 use Rattle.std.specs.declared.fmt.InlineText.{InlineText}
 use Rattle.std.specs.List.{FoldsTo, concat}

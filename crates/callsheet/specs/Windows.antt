@@ -1,5 +1,5 @@
 -- The sheet of a capture that is read window by window. Assumes nothing.
-use Rattle.std.specs.Prelude.{◌≡◌, ℕ, zero, suc, ◌+◌, ◌-◌, ◌<◌, Bool, true, false, cond, not, ◌||◌, List, [], ◌∷◌, ◌++◌, Some, None, Ok, Err, Option, Result}
+use Rattle.std.specs.Prelude.{ℕ, zero, suc, ◌+◌, ◌-◌, Bool, true, false, cond, not, ◌||◌, List, [], ◌∷◌, ◌++◌, Some, None, Ok, Err, Option, Result}
 use Rattle.capture.specs.declared.stop.Stop.{Stop}
 use Rattle.capture.specs.Records.{Sent, Place, place_of, next_at, place_after}
 use Rattle.capture.specs.Stops.{turnable}

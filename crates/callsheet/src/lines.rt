@@ -38,9 +38,9 @@ impl fmt::Display for Front<'_> {
 }
 
 impl Front<'_> {
-    // The same with the number of an accepted datagram behind it. It is printed once for all lines of the datagram, as most of
-    // a line is its front.
-    fn of_datagram(self, number: u32) -> Result<InlineText<LONGEST_FRONT>, fmt::Error>
+    // The same with the number of an accepted datagram behind it. It is printed once for all lines of the datagram, since most
+    // of a line is its front: printed for each of them, it took a quarter more of the program's time.
+    fn with_number(self, number: u32) -> Result<InlineText<LONGEST_FRONT>, fmt::Error>
         ensures { IfOk result (λ t. inline_text t ≡ front_text self.entry.number (record_says self.entry.«record».now) ++ spaced number) }
     {
         let mut text = InlineText::new();
@@ -60,7 +60,7 @@ impl fmt::Display for Lines<'_> {
         let front = self.0;
         match Datagram::read(front.record.datagram) {
             Ok(datagram) => {
-                let front = front.of_datagram(datagram.number)?;
+                let front = front.with_number(datagram.number)?;
                 write_payloads(f, front.as_str(), datagram.payloads)
             }
             Err(fault) => writeln!(

@@ -55,6 +55,9 @@ fn the_largest_fields(rt: HostRuntime) -> Result<(), Fail> {
     let expected =
         "999999 4294967295 255.255.255.255:65535 16777215 127 65535 0\n999999 4294967295 255.255.255.255:65535 16777215 0 0 1\n";
     assert_eq!(rt; lines.as_str(), expected);
+    // A number that no record of a capture has makes the longest line, and there is room for it.
+    let lines = record_lines(rt.alloc(), 4_294_967_295, &record)?;
+    assert_eq!(rt; lines.len(), expected.len() + 8);
     Ok(())
 }
 
