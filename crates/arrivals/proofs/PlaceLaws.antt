@@ -13,11 +13,6 @@ not_fresh Fresh ne = absurd (ne refl)
 not_fresh Again ne = refl
 not_fresh Old ne = refl
 
-pub is_fresh_lem : (j : Judgement) → is_fresh j ≡ true → j ≡ Fresh
-is_fresh_lem Fresh e = refl
-is_fresh_lem Again e = absurd (false≢true e)
-is_fresh_lem Old e = absurd (false≢true e)
-
 -- at one place
 module _ (d : ℕ) (s : Seen) (n : ℕ) where
   pub judged_number_lem : n ≤ 16777215 → judged_at d s n ≡ judged_number d s n
