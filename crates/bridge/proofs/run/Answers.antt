@@ -1,11 +1,8 @@
 -- A run's turns and its end.
 use Rattle.std.proofs.Common.{◌≡◌, ◌<◌, ◌≤◌, min, length, sym, ap, ◌∙◌, rules}
 use Rattle.bridge.specs.Runs.{code}
-use Rattle.bridge.proofs.RunLaws.{becomes, turned, end}
+use Rattle.bridge.proofs.RunLaws.{turned, end}
 use Rattle.bridge.proofs.run.Goals as goal
-
-pub loop-i-init : goal.loop-i-init
-loop-i-init g c = ap (λ b. becomes g.B.ArrivalBook.depth b c.args.places.now c.args.numbers.now 0 c.args.judgements.now) c.new-book.ensures
 
 pub loop-i-preserved : goal.loop-i-preserved
 loop-i-preserved g c =
