@@ -1,6 +1,7 @@
 -- Whole histories of notes, from the definitions alone.
 use Rattle.std.proofs.Common.{◌≡◌, ℕ, ◌<◌, ◌≤◌, true, false, cond, ◌&&◌, eqb, leb, ◌⊎◌, List, [], ◌∷◌, sym, refl, ap, ◌∙◌, subst, inl, inr, ⊎_elim, arith}
 use mathlib.Core.Path.{fun_ext}
+use mathlib.Core.Bool.{false≢true}
 use Rattle.std.proofs.lemmas.Bool.{cases_eq, cases_lt, cases_Bool, eq-eqb, ne_eqb, eqb-true, or_cases, and_parts, or_left, or_right}
 use Rattle.arrivals.specs.Meaning.{ahead, near, judged, judged_at, judged_number, noted, noted_at, with_fresh, new_book, is_fresh, Seen, Book, blank, upto, SoundAt, Sound}
 use Rattle.arrivals.specs.Histories.{Note, after, only_at, PlacesApart, NumbersSound}
@@ -8,7 +9,7 @@ use Rattle.arrivals.specs.declared.book.Judgement.{Judgement}
 use Rattle.arrivals.specs.declared.book.Judgement.TheVariants.{Fresh, Again, Old}
 use Rattle.arrivals.specs.Steps.{up_self, ahead_none}
 use Rattle.arrivals.specs.Judging.{again_held, is_near, noted_ahead, noted_behind}
-use Rattle.arrivals.proofs.PlaceLaws.{not_fresh, judged_number_lem, judged_high, fresh_number, noted_fresh, noted_none, judged_in, judged_out, noted_out, noted_here, noted_elsewhere}
+use Rattle.arrivals.proofs.PlaceLaws.{not_fresh, judged_number_lem, judged_high, fresh_number, noted_fresh, noted_none, judged_in, judged_out, judged_outside, noted_out, noted_here, noted_elsewhere}
 
 -- a judgement is fresh or not
 pub fresh_or_not : (j : Judgement) → (j ≡ Fresh) ⊎ (j ≡ Fresh → ⊥)
@@ -156,3 +157,7 @@ not_fresh_noted d b p n =
 pub unchanged : (d : ℕ) (b : Book) (p n : ℕ) → (judged d b p n ≡ Fresh → ⊥) → noted d b p n ≡ b
 unchanged d b p n ne = fun_ext (λ q. by_place d b p n q (λ s. s ≡ b q) refl
     (λ same within. noted_none d (b q) n (λ f. ne (judged_in d b p n within ∙ ap (λ i. judged_at d (b i) n) (sym same) ∙ f))))
+
+-- what is past the last place or the last number changes nothing
+pub outside_unchanged : (d : ℕ) (b : Book) (p n : ℕ) → (32 ≤ p) ⊎ (16777215 < n) → noted d b p n ≡ b
+outside_unchanged d b p n out = unchanged d b p n (λ f. false≢true (ap is_fresh (sym (judged_outside d b p n out) ∙ f)))

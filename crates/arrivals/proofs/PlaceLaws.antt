@@ -1,12 +1,10 @@
 -- Judging and noting in a book that is kept place by place.
-use Rattle.std.proofs.Common.{◌≡◌, ℕ, zero, suc, ◌<◌, ◌≤◌, true, false, cond, ◌&&◌, leb, ◌⊎◌, List, length, get_or, set, replicate, sym, refl, ap, ◌∙◌, ⊎_elim, arith, get_or-set_other, get_or-set_same}
+use Rattle.std.proofs.Common.{◌≡◌, ℕ, zero, suc, ◌<◌, ◌≤◌, true, false, cond, ◌&&◌, leb, ◌⊎◌, List, length, Some, None, Option, get_or, set, replicate, sym, refl, ap, ◌∙◌, ⊎_elim, arith, get_or-set_other, get_or-set_same}
 use mathlib.Core.Path.{fun_ext}
 use mathlib.Core.Bool.{false≢true, and-false}
 use Rattle.std.proofs.lemmas.Bool.{cases_eq, cases_lt, le-leb, lt-leb, eq-eqb, ne_eqb}
 use Rattle.arrivals.specs.Meaning.{judged, judged_at, judged_number, noted, noted_at, with_fresh, is_fresh, Seen, Book, SoundAt}
 use Rattle.arrivals.specs.Tables.{place_seen}
-use Rattle.arrivals.specs.declared.table.Place.{Place}
-use Rattle.arrivals.specs.declared.table.Place.TheVariants.{Blank, Upto}
 use Rattle.arrivals.specs.declared.book.Judgement.{Judgement}
 use Rattle.arrivals.specs.declared.book.Judgement.TheVariants.{Fresh, Again, Old}
 
@@ -14,11 +12,6 @@ pub not_fresh : (j : Judgement) → (j ≡ Fresh → ⊥) → is_fresh j ≡ fal
 not_fresh Fresh ne = absurd (ne refl)
 not_fresh Again ne = refl
 not_fresh Old ne = refl
-
-pub is_fresh_lem : (j : Judgement) → is_fresh j ≡ true → j ≡ Fresh
-is_fresh_lem Fresh e = refl
-is_fresh_lem Again e = absurd (false≢true e)
-is_fresh_lem Old e = absurd (false≢true e)
 
 -- at one place
 module _ (d : ℕ) (s : Seen) (n : ℕ) where
@@ -56,8 +49,15 @@ module _ (d : ℕ) (b : Book) (p n : ℕ) where
   unfolding judged
   judged_in within = simp (le-leb p 31 (omega arith))
 
-  pub judged_outside : (32 ≤ p) ⊎ ((p < 32) × (16777215 < n)) → judged d b p n ≡ Old
-  judged_outside out = ⊎_elim judged_out (λ high. judged_in high.0 ∙ judged_high d (b p) n high.1) out
+  pub judged_outside : (32 ≤ p) ⊎ (16777215 < n) → judged d b p n ≡ Old
+  judged_outside out =
+      ⊎_elim
+      (λ (within : p < 32). ⊎_elim judged_out (λ high. judged_in within ∙ judged_high d (b p) n high) out)
+      judged_out
+      (cases_lt p 32)
+
+  pub judged_inside : p < 32 → n < 16777216 → judged d b p n ≡ judged_number d (b p) n
+  judged_inside within low = judged_in within ∙ judged_number_lem d (b p) n (omega arith)
 
   pub fresh_place : judged d b p n ≡ Fresh → (p < 32) × (judged_at d (b p) n ≡ Fresh)
   fresh_place f =
@@ -96,6 +96,6 @@ get_d_same (suc k) zero a = refl
 get_d_same (suc k) (suc i) a = get_d_same k i a
 
 -- places are sound where their windows are
-pub place_sound : {W : Type 0} (d : ℕ) (seen : W → Seen) → ((w : W) → SoundAt d (seen w)) → (p : Place W) → SoundAt d (place_seen seen p)
-place_sound d seen sound Blank = tt
-place_sound d seen sound (Upto w) = sound w
+pub place_sound : {W : Type 0} (d : ℕ) (seen : W → Seen) → ((w : W) → SoundAt d (seen w)) → (p : Option W) → SoundAt d (place_seen seen p)
+place_sound d seen sound None = tt
+place_sound d seen sound (Some w) = sound w

@@ -1,5 +1,5 @@
 -- The bits of a mask.
-use Rattle.std.specs.Prelude.{◌≡◌, ℕ, zero, suc, ◌+◌, ◌-◌, ◌*◌, ◌/◌, ◌%◌, ◌^◌, ◌<◌, ◌≤◌, true, false, ◌||◌, ◌==◌, ◌≢◌, nat_eq, refl}
+use Rattle.std.specs.Prelude.{◌≡◌, ℕ, zero, suc, ◌+◌, ◌-◌, ◌*◌, ◌/◌, ◌%◌, ◌^◌, ◌<◌, ◌≤◌, true, false, ◌||◌, ◌==◌, nat_eq, refl}
 use Rattle.std.proofs.Common.{sym, ap, subst, ◌∙◌, ⊎_elim, arith, mul_assoc, add-one}
 use Rattle.std.proofs.Math.Nat.{div-eq_of_lt}
 use Rattle.std.specs.Int.Bits.{bit_or, bit_and, shifted_even}
@@ -68,13 +68,15 @@ unfolding bit
 bit_one zero p = absurd (omega arith)
 bit_one (suc j) p = let more : 1 < 2 ^ suc j = pow_below 0 (suc j) p in ap (λ v. nat_eq (v % 2) 1) (div-eq_of_lt more)
 
-pub bit_and_lem : (b j : ℕ) → bit_and (b / 2 ^ j) 1 ≡ 1 → bit b j ≡ true
+-- what `bits >> j & 1 == 1` tests
+pub bit_test : (b j : ℕ) → (bit_and (b / 2 ^ j) 1 == 1) ≡ bit b j
 unfolding bit
-bit_and_lem b j e = eq-eqb _ _ (sym (and_mask (b / 2 ^ j) 1) ∙ e)
+bit_test b j = ap (λ v. nat_eq v 1) (and_mask (b / 2 ^ j) 1)
 
-pub bit_and_not : (b j : ℕ) → (bit_and (b / 2 ^ j) 1 ≢ 1) → bit b j ≡ false
+pub bit_none : (j : ℕ) → bit 0 j ≡ false
 unfolding bit
-bit_and_not b j e = ne_eqb _ _ (λ q. e (and_mask (b / 2 ^ j) 1 ∙ q))
+bit_none zero = refl
+bit_none (suc j) = let more : 1 < 2 ^ suc j = pow_below 0 (suc j) (omega arith) in ap (λ v. nat_eq (v % 2) 1) (div-eq_of_lt (omega arith))
 
 or_one : (z : ℕ) → z < 2 → bit_or 1 z ≡ 1
 or_one zero p = refl

@@ -1,8 +1,10 @@
 -- What is judged and noted, by the tests on the number.
-use Rattle.std.specs.Prelude.{◌≡◌, ℕ, Bool, true, false, cond, not, ◌&&◌, ◌||◌, ◌==◌, refl}
+use Rattle.std.specs.Prelude.{◌≡◌, ℕ, Bool, true, false, cond, not, ◌&&◌, ◌||◌, ◌<◌, ◌==◌, refl}
+use Rattle.std.proofs.Common.{sym, ap, ◌∙◌}
 use Rattle.std.proofs.lemmas.Bool.{false≢true}
 use Rattle.std.proofs.Math.Bool.{and-false}
-use Rattle.arrivals.specs.Meaning.{ahead, near, judged_number, with_fresh, is_fresh, upto}
+use Rattle.arrivals.specs.Steps.{near_true}
+use Rattle.arrivals.specs.Meaning.{steps_up, ahead, near, judged_number, with_fresh, is_fresh, blank, upto}
 use Rattle.arrivals.specs.declared.book.Judgement.TheVariants.{Fresh, Again, Old}
 
 near_cases : (p s : Bool) → is_fresh (cond (false || (p && not s)) Fresh (cond s Again Old)) ≡ true → (s ≡ false) × (p ≡ true)
@@ -10,6 +12,10 @@ near_cases true true e = absurd (false≢true e)
 near_cases true false e = (refl, refl)
 near_cases false true e = absurd (false≢true e)
 near_cases false false e = absurd (false≢true e)
+
+pub fresh_blank : (d n : ℕ) → judged_number d blank n ≡ Fresh
+unfolding judged_number
+fresh_blank d n = refl
 
 module _ (d h : ℕ) (s : ℕ → Bool) (n : ℕ) where
   pub fresh_ahead : ahead n h ≡ true → judged_number d (upto h s) n ≡ Fresh
@@ -23,6 +29,10 @@ module _ (d h : ℕ) (s : ℕ → Bool) (n : ℕ) where
   pub fresh_near : ahead n h ≡ false → s n ≡ false → near d n h ≡ true → judged_number d (upto h s) n ≡ Fresh
   unfolding judged_number
   fresh_near a e p = simp (a, e, p)
+
+  -- where the newest number is in the set
+  pub fresh_within : s h ≡ true → ahead n h ≡ false → s n ≡ false → steps_up h n < d → judged_number d (upto h s) n ≡ Fresh
+  fresh_within top a e p = fresh_near a e (near_true d n h a (λ same. false≢true (sym e ∙ ap s same ∙ top)) p)
 
   pub old_far : ahead n h ≡ false → s n ≡ false → near d n h ≡ false → judged_number d (upto h s) n ≡ Old
   unfolding judged_number

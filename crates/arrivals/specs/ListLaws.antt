@@ -1,25 +1,36 @@
 -- Judging and noting where a place is kept as slots that hold the numbers.
-use Rattle.std.specs.Prelude.{◌≡◌, ℕ, ◌+◌, ◌<◌, ◌≤◌, Bool, true, false, cond, ◌&&◌, ◌||◌, ltb, leb, ◌⊎◌, List, [], map, ◌==◌, ◌≢◌, nat_le, nat_lt, refl}
+use Rattle.std.specs.Prelude.{◌≡◌, ℕ, ◌+◌, ◌<◌, ◌≤◌, true, false, cond, ◌&&◌, ◌||◌, ltb, leb, ◌⊎◌, List, [], Some, None, Option, is_some, map, ◌==◌, ◌≢◌, nat_lt, refl}
 use Rattle.std.proofs.Common.{sym, ap, ap₂, subst, ◌∙◌, inl, inr, ⊎_elim, arith}
 use Rattle.std.proofs.Math.Path.{fun_ext}
 use Rattle.std.proofs.Math.Bool.{or-false, and-false}
 use Rattle.std.proofs.lemmas.Bool.{cases_lt, cases_eq, cases_Bool, lt-ltb, le-ltb, le-leb, lt-leb, leb-true, leb-false, eq-eqb, ne_eqb}
+use Rattle.search.specs.First.{first_under}
+use Rattle.search.specs.Places.{some_under}
+use Rattle.arrivals.specs.declared.number.Number.{Number}
 use Rattle.arrivals.specs.Meaning.{steps_up, ahead, near, judged_number, with_fresh, is_fresh, blank, upto, SoundAt}
-use Rattle.arrivals.specs.Slots.{times, taken, keep_near, Tidy}
-use Rattle.arrivals.specs.declared.slot.Slot.{Slot}
+use Rattle.arrivals.specs.Slots.{Slot, holds, held, times, taken, keep_near, Tidy}
 use Rattle.arrivals.specs.declared.book.Judgement.TheVariants.{Fresh, Again, Old}
 use Rattle.arrivals.specs.Steps.{up_self, up_back, up_zero, ahead_far, ahead_is, near_true, near_far, near_is}
 use Rattle.arrivals.specs.Judging.{again_held, fresh_near, old_far, is_near, noted_ahead, noted_behind}
-use Rattle.arrivals.specs.SlotLaws.{one, none, room, kept_near, kept_far}
-
-abbrev pub held : List Slot → ℕ → Bool
-held xs k = nat_le 1 (times k xs)
+use Rattle.arrivals.specs.SlotLaws.{one, none, found_times, lost_times, room, kept_near, kept_far}
 
 held_yes : (xs : List Slot) (k : ℕ) → 0 < times k xs → held xs k ≡ true
 held_yes xs k p = le-leb 1 (times k xs) (omega arith)
 
 held_no : (xs : List Slot) (k : ℕ) → times k xs ≡ 0 → held xs k ≡ false
 held_no xs k z = lt-leb 1 (times k xs) (omega arith)
+
+-- what the search for a number finds
+pub held_found : (key : Number) (xs : List Slot) (r : Option ℕ) → r ≡ first_under (λ x. some_under (λ n k. n.value == k.value) x key) xs → is_some r ≡ held xs key.value
+held_found key xs r e = found r (e ∙ ap (λ p. first_under p xs) (fun_ext same))
+  where
+    same : (x : Slot) → some_under {R = Number} {K = Number} (λ n k. n.value == k.value) x key ≡ holds x key.value
+    same None = refl
+    same (Some n) = refl
+
+    found : (r : Option ℕ) → r ≡ first_under (λ x. holds x key.value) xs → is_some r ≡ held xs key.value
+    found (Some f) e = sym (held_yes xs key.value (found_times key.value 0 xs f (sym e)))
+    found None e = sym (held_no xs key.value (lost_times key.value 0 xs (sym e)))
 
 -- behind, from within the depth
 not_ahead : (d h k : ℕ) → d ≤ 4096 → h < 16777216 → k < 16777216 → (k ≢ h) → steps_up h k < d → ahead k h ≡ false

@@ -8,4 +8,4 @@ unfoldable pub bit : ℕ → ℕ → Bool
 bit bits j = bits / 2 ^ j % 2 == 1
 
 abbrev pub mask_seen : MaskWindow → Seen
-mask_seen m = window 64 m.newest (bit m.bits)
+mask_seen m = window 64 m.newest.value (bit m.bits)

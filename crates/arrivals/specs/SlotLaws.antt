@@ -7,9 +7,8 @@ use native.Mathlib.Omega.{arith}
 use Rattle.std.proofs.lemmas.Bool.{cases_eq, cases_Bool, eq-eqb, ne_eqb, false≢true}
 use Rattle.arrivals.specs.Meaning.{steps_up}
 use Rattle.search.specs.First.{first_from}
-use Rattle.arrivals.specs.Slots.{holds, is_free, times, taken, keep_near}
-use Rattle.arrivals.specs.declared.slot.Slot.{Slot}
-use Rattle.arrivals.specs.declared.slot.Slot.TheVariants.{Empty, Number}
+use Rattle.arrivals.specs.Slots.{Slot, holds, is_free, times, taken, keep_near}
+use Rattle.arrivals.specs.declared.number.Number.{Number}
 use Rattle.arrivals.specs.Steps.{up_twice}
 
 -- a test counted
@@ -39,13 +38,13 @@ lost_times k i (x ∷ xs) e =
 -- the search for a free slot
 pub full : (i : ℕ) (xs : List Slot) → first_from is_free i xs ≡ None → taken xs ≡ length xs
 full i [] e = refl
-full i (Empty ∷ xs) e = absurd (let z : ◌≡◌ {A = ℕ} 0 1 = cc in omega arith)
-full i (Number n ∷ xs) e = let more = full (i + 1) xs e in omega arith
+full i (None ∷ xs) e = absurd (let z : ◌≡◌ {A = ℕ} 0 1 = cc in omega arith)
+full i (Some n ∷ xs) e = let more = full (i + 1) xs e in omega arith
 
-pub put_times : (xs : List Slot) (f n k : ℕ) → f < length xs → is_free (slice_index_or xs f Empty) ≡ true → times k (slice_set xs f (Number n)) ≡ cond (n == k) 1 0 + times k xs
+pub put_times : (xs : List Slot) (f : ℕ) (n : Number) (k : ℕ) → f < length xs → is_free (slice_index_or xs f None) ≡ true → times k (slice_set xs f (Some n)) ≡ cond (n.value == k) 1 0 + times k xs
 put_times [] f n k p e = absurd (omega arith)
-put_times (Empty ∷ xs) zero n k p e = omega arith
-put_times (Number m ∷ xs) zero n k p e = absurd (false≢true e)
+put_times (None ∷ xs) zero n k p e = omega arith
+put_times (Some m ∷ xs) zero n k p e = absurd (false≢true e)
 put_times (x ∷ xs) (suc f) n k p e = let more = put_times xs f n k (omega arith) e in omega arith
 
 -- sums over the places behind
@@ -114,13 +113,14 @@ module _ (d h : ℕ) (low : d ≤ 4096) (hh : h < 16777216) where
   taken_sum : (xs : List Slot) → Near xs → taken xs ≡ sum_to d (λ j. times (steps_up h j) xs)
   unfolding Near
   taken_sum [] near = sym (sum_zero d)
-  taken_sum (Empty ∷ xs) near =
+  taken_sum (None ∷ xs) near =
       let more = taken_sum xs (λ k p. near k (omega arith)) in
       let same = sum_ext d (λ j. 0 + times (steps_up h j) xs) (λ j. times (steps_up h j) xs) (λ j _. omega arith) in
       omega arith
-  taken_sum (Number n ∷ xs) near =
+  taken_sum (Some m ∷ xs) near =
       let more = taken_sum xs (λ k p. near k (omega arith)) in
-      let self = one (holds (Number n) n) (eq-eqb n n refl) in
+      let n = m.value in
+      let self = one (holds (Some m) n) (eq-eqb n n refl) in
       let here = near n (omega arith) in
       let split = sum_add d (λ j. cond (n == steps_up h j) 1 0) (λ j. times (steps_up h j) xs) in
       let tests = sum_ext d (λ j. cond (n == steps_up h j) 1 0) (λ j. cond (steps_up h n == j) 1 0) (λ j p. ap (λ b. cond b 1 0) (lag_test n j here.0 p)) in
@@ -136,23 +136,25 @@ module _ (d h : ℕ) (low : d ≤ 4096) (hh : h < 16777216) where
       omega arith
 
 -- forgetting
-holds_cond : (c : Bool) (m k : ℕ) → holds (cond c (Number m) Empty) k ≡ (c && m == k)
+holds_cond : (c : Bool) (m : Number) (k : ℕ) → holds (cond c (Some m) None) k ≡ (c && m.value == k)
 holds_cond true m k = refl
 holds_cond false m k = refl
 
 kept_in : (d n k : ℕ) (x : Slot) → nat_lt (steps_up n k) d ≡ true → holds (keep_near d n x) k ≡ holds x k
-kept_in d n k Empty t = refl
-kept_in d n k (Number m) t =
-    holds_cond (nat_lt (steps_up n m) d) m k ∙
+kept_in d n k None t = refl
+kept_in d n k (Some number) t =
+    let m = number.value in
+    holds_cond (nat_lt (steps_up n m) d) number k ∙
     ⊎_elim
     (λ (e : m ≡ k). ap (λ b. b && m == k) (ap (λ v. ltb (steps_up n v) d) e ∙ t))
     (λ (ne : m ≡ k → ⊥). ap (λ b. nat_lt (steps_up n m) d && b) (ne_eqb m k ne) ∙ and-false (nat_lt (steps_up n m) d) ∙ sym (ne_eqb m k ne))
     (cases_eq m k)
 
 kept_out : (d n k : ℕ) (x : Slot) → nat_lt (steps_up n k) d ≡ false → holds (keep_near d n x) k ≡ false
-kept_out d n k Empty t = refl
-kept_out d n k (Number m) t =
-    holds_cond (nat_lt (steps_up n m) d) m k ∙
+kept_out d n k None t = refl
+kept_out d n k (Some number) t =
+    let m = number.value in
+    holds_cond (nat_lt (steps_up n m) d) number k ∙
     ⊎_elim
     (λ (e : m ≡ k). ap (λ b. b && m == k) (ap (λ v. ltb (steps_up n v) d) e ∙ t))
     (λ (ne : m ≡ k → ⊥). ap (λ b. nat_lt (steps_up n m) d && b) (ne_eqb m k ne) ∙ and-false (nat_lt (steps_up n m) d))
@@ -165,9 +167,3 @@ kept_near d n k (x ∷ xs) t = ap₂ ◌+◌ (ap (λ b. cond b 1 0) (kept_in d n
 pub kept_far : (d n k : ℕ) (xs : List Slot) → nat_lt (steps_up n k) d ≡ false → times k (map (keep_near d n) xs) ≡ 0
 kept_far d n k [] t = refl
 kept_far d n k (x ∷ xs) t = ap₂ ◌+◌ (ap (λ b. cond b 1 0) (kept_out d n k x t)) (kept_far d n k xs t)
-
--- a reading serves as its own default
-pub get_d_self : {X : Type 0} (xs : List X) (i : ℕ) (d : X) → slice_index_or xs i d ≡ slice_index_or xs i (slice_index_or xs i d)
-get_d_self [] i d = refl
-get_d_self (x ∷ xs) zero d = refl
-get_d_self (x ∷ xs) (suc i) d = get_d_self xs i d

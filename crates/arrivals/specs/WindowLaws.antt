@@ -1,5 +1,5 @@
 -- Judging and noting where a place is kept as marks, at any depth up to 4,096. What window the marks has to show only what becomes of each mark.
-use Rattle.std.specs.Prelude.{◌≡◌, ℕ, ◌-◌, ◌<◌, ◌≤◌, Bool, true, false, ◌&&◌, ◌||◌, ◌⊎◌, ◌==◌, ◌≢◌}
+use Rattle.std.specs.Prelude.{◌≡◌, ℕ, ◌-◌, ◌<◌, ◌≤◌, Bool, true, false, ◌&&◌, ◌||◌, ◌⊎◌, ◌==◌, ◌≢◌, refl}
 use Rattle.std.proofs.Math.Path.{sym, ap, fun_ext}
 use Rattle.std.proofs.Common.{◌∙◌, inl, inr, ⊎_elim, arith}
 use Rattle.std.proofs.Math.Bool.{true≢false, and-false, and-true}
@@ -9,6 +9,10 @@ use Rattle.arrivals.specs.Windows.{marked, window}
 use Rattle.arrivals.specs.declared.book.Judgement.TheVariants.{Fresh, Again, Old}
 use Rattle.arrivals.specs.Steps.{up_below, up_zero, up_self, up_back, up_on, up_same, ahead_far, ahead_is, near_true, near_far, near_is}
 use Rattle.arrivals.specs.Judging.{fresh_ahead, again_held, fresh_near, old_far, is_near, noted_ahead, noted_behind}
+
+pub window_is : (d h : ℕ) (m : ℕ → Bool) → window d h m ≡ upto h (marked d h m)
+unfolding window
+window_is d h m = refl
 
 -- one mark
 module _ (d h : ℕ) (m : ℕ → Bool) where

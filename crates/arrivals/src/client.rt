@@ -8,7 +8,7 @@ pub fn judge_and_note<B: ArrivalBook>(book: &mut B, place: usize, number: u32) -
     ensures { JudgedAndNoted B.ArrivalBook.depth (B.ArrivalBook.seen book.old) place number result (B.ArrivalBook.seen book.new) }
 {
     let judgement = book.judge(place, number);
-    if let Judgement::Fresh = judgement {
+    if judgement == Judgement::Fresh {
         book.note(place, number);
     }
     judgement

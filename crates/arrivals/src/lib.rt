@@ -7,7 +7,6 @@ mod laws;
 mod list;
 mod mask;
 mod number;
-mod slot;
 mod table;
 mod window;
 

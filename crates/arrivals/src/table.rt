@@ -1,41 +1,34 @@
 // An arrival book of 32 places, over any kind of window.
-ghost use Rattle.std.specs.Prelude.{◌≡◌, ◌<◌, true, slice_index_or};
+ghost use Rattle.std.specs.Prelude.{◌≡◌, true, slice_index_or, None};
 ghost use Rattle.arrivals.specs.Meaning.{judged_number, with_fresh, is_fresh};
-ghost use Rattle.arrivals.specs.Tables.{place_seen, blank_place};
+ghost use Rattle.arrivals.specs.Tables.{place_seen};
 
 use crate::book::{ArrivalBook, Judgement};
-use crate::number::LAST_NUMBER;
+use crate::number::Number;
 use crate::window::Window;
 
 pub const PLACES: usize = 32;
 
 // A place stands for one neighbour: nothing has come from it yet, or its window says what has.
-#[derive(Clone, Copy)]
-pub enum Place<W> {
-    Blank,
-    Upto(W),
+pub type Place<W> = Option<W>;
+
+fn judge_at<W: Window>(place: &Place<W>, number: Number) -> Judgement
+    ensures { result ≡ judged_number W.Window.DEPTH (place_seen W.Window.seen place.now) number.value }
+{
+    match place {
+        None => Judgement::Fresh,
+        Some(window) => window.judge(number),
+    }
 }
 
-impl<W: Window + Copy> Place<W> {
-    fn judge(&self, number: u32) -> Judgement
-        requires { number < 16777216 }
-        ensures { result ≡ judged_number W.Window.depth (place_seen W.Window.seen self.now) number }
-    {
-        match self {
-            Place::Blank => Judgement::Fresh,
-            Place::Upto(window) => window.judge(number),
-        }
-    }
-
-    // The same place with one fresh number more.
-    fn with(self, number: u32) -> Place<W>
-        requires { (number < 16777216) × (is_fresh (judged_number W.Window.depth (place_seen W.Window.seen self) number) ≡ true) }
-        ensures { place_seen W.Window.seen result ≡ with_fresh W.Window.depth (place_seen W.Window.seen self) number }
-    {
-        match self {
-            Place::Blank => Place::Upto(W::first(number)),
-            Place::Upto(window) => Place::Upto(window.with(number)),
-        }
+// The same place with one fresh number more.
+fn with_at<W: Window>(place: Place<W>, number: Number) -> Place<W>
+    requires { is_fresh (judged_number W.Window.DEPTH (place_seen W.Window.seen place) number.value) ≡ true }
+    ensures { place_seen W.Window.seen result ≡ with_fresh W.Window.DEPTH (place_seen W.Window.seen place) number.value }
+{
+    match place {
+        None => Some(W::first(number)),
+        Some(window) => Some(window.with(number)),
     }
 }
 
@@ -44,29 +37,30 @@ pub struct Table<W> {
     places: [Place<W>; PLACES],
 }
 
-impl<W: Window + Copy> ArrivalBook for Table<W> {
-    ghost depth = { W.Window.depth };
+impl<W: Window> ArrivalBook for Table<W> {
+    ghost depth = { W.Window.DEPTH };
 
-    ghost seen = { λ b place. place_seen W.Window.seen (slice_index_or b.places place blank_place) };
+    ghost seen = { λ b place. place_seen W.Window.seen (slice_index_or b.places place None) };
 
     fn new() -> Table<W> {
         Table {
-            places: [Place::Blank; PLACES],
+            places: [None; PLACES],
         }
     }
 
     fn judge(&self, place: usize, number: u32) -> Judgement {
-        if place >= PLACES || number > LAST_NUMBER {
-            return Judgement::Old;
+        match (self.places.get(place), Number::try_from(number)) {
+            (Some(at), Ok(number)) => judge_at(at, number),
+            _ => Judgement::Old,
         }
-        let at = &self.places[place];
-        at.judge(number)
     }
 
     fn note(&mut self, place: usize, number: u32) {
-        if let Judgement::Fresh = self.judge(place, number) {
-            let at = &mut self.places[place];
-            *at = at.with(number);
+        let Ok(number) = Number::try_from(number) else {
+            return;
+        };
+        if place < PLACES && judge_at(&self.places[place], number) == Judgement::Fresh {
+            self.places[place] = with_at(self.places[place], number);
         }
     }
 }

@@ -1,33 +1,77 @@
 // What a place keeps once it has seen a number, whatever keeps it.
-ghost use Rattle.std.specs.Prelude.{◌≡◌, ℕ, ◌<◌, ◌≤◌, true};
-ghost use Rattle.arrivals.specs.Meaning.{Seen, SoundAt, blank, judged_number, with_fresh, is_fresh};
+ghost use Rattle.std.specs.Prelude.{◌≡◌, ℕ, ◌≤◌, Bool, true, false};
+ghost use Rattle.arrivals.specs.Meaning.{Seen, SoundAt, ahead, blank, upto, judged_number, with_fresh, is_fresh};
 
 use crate::book::Judgement;
+use crate::number::Number;
 
 // A window is a newest number, with which of the numbers behind it by less than the depth have been noted.
-// It is all that a new kind of book has to bring. Only a table calls it, and has checked the number before:
-// hence the `requires`, and the trait stays inside the crate.
-pub(crate) trait Window {
-    ghost depth: { ℕ };
+// A new kind of book has to bring its depth, how the numbers are kept, and the laws below: judging and noting are
+// written once, from these. The trait stays inside the crate.
+pub(crate) trait Window: Copy {
+    ghost DEPTH: { ℕ };
 
-    // what the place has seen
+    const DEPTH: u32;
+
+    // what the place has seen, by its newest number and the test of its set
     ghost seen: { Self → Seen };
 
-    // The window of a blank place's first number.
-    fn first(number: u32) -> Self
-        requires { number < 16777216 }
-        ensures { seen result ≡ with_fresh depth blank number };
+    ghost newest: { Self → ℕ };
 
-    fn judge(&self, number: u32) -> Judgement
-        requires { number < 16777216 }
-        ensures { result ≡ judged_number depth (seen self.now) number };
+    ghost held: { Self → ℕ → Bool };
+
+    // The window of a blank place's first number.
+    fn first(number: Number) -> Self
+        ensures { seen result ≡ with_fresh DEPTH blank number.value };
+
+    fn newest(&self) -> Number
+        ensures { result.value ≡ newest self.now };
+
+    // Whether the number is in the set.
+    fn holds(&self, number: Number) -> bool
+        ensures { result ≡ held self.now number.value };
+
+    // The window moved up to a number ahead. What falls out of its depth is forgotten.
+    fn moved_to(self, number: Number) -> Self
+        requires { ahead number.value (newest self) ≡ true }
+        ensures { seen result ≡ with_fresh DEPTH (seen self) number.value };
+
+    // The same window with one fresh number more, which is not ahead.
+    fn plus(self, number: Number) -> Self
+        requires behind { ahead number.value (newest self) ≡ false }
+        requires fresh { is_fresh (judged_number DEPTH (seen self) number.value) ≡ true }
+        ensures { seen result ≡ with_fresh DEPTH (seen self) number.value };
+
+    ghost keeps: { (w : Self) → seen w ≡ upto (newest w) (held w) };
+
+    ghost deep: { (1 ≤ DEPTH) × (DEPTH ≤ 4096) };
+
+    ghost sound: { (w : Self) → SoundAt DEPTH (seen w) };
+
+    final fn judge(&self, number: Number) -> Judgement
+        ensures { result ≡ judged_number DEPTH (seen self.now) number.value }
+    {
+        let newest = self.newest();
+        if number.is_ahead(newest) {
+            Judgement::Fresh
+        } else if self.holds(number) {
+            Judgement::Again
+        } else if newest.steps_up(number) < Self::DEPTH {
+            Judgement::Fresh
+        } else {
+            Judgement::Old
+        }
+    }
 
     // The same window with one fresh number more.
-    fn with(self, number: u32) -> Self
-        requires { (number < 16777216) × (is_fresh (judged_number depth (seen self) number) ≡ true) }
-        ensures { seen result ≡ with_fresh depth (seen self) number };
-
-    ghost deep: { (1 ≤ depth) × (depth ≤ 4096) };
-
-    ghost sound: { (w : Self) → SoundAt depth (seen w) };
+    final fn with(self, number: Number) -> Self
+        requires { is_fresh (judged_number DEPTH (seen self) number.value) ≡ true }
+        ensures { seen result ≡ with_fresh DEPTH (seen self) number.value }
+    {
+        if number.is_ahead(self.newest()) {
+            self.moved_to(number)
+        } else {
+            self.plus(number)
+        }
+    }
 }

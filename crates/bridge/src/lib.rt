@@ -8,25 +8,23 @@ ghost use Rattle.bridge.specs.Runs.{Ran, code};
 use arrivals::{ArrivalBook, Judgement, ListBook, MaskBook, judge_and_note};
 
 // The octet that a judgement is written as: 0 fresh, 1 again, 2 old.
+// A function and no `From<Judgement>`: the octets are this bridge's, and an impl would have to stand in `arrivals`.
 fn code_of(judgement: Judgement) -> u8
     ensures { result ≡ code judgement }
 {
     judgement as u8
 }
 
-// Judges the numbers in order, each at its place, notes the fresh ones, and writes each judgement.
+// Judges the numbers in order, each at its place, in a new book, notes the fresh ones, and writes each judgement.
 // It goes as far as the shortest of the three slices, and answers how far that was.
-fn run<B: ArrivalBook>(
-    book: &mut B,
-    places: &[usize],
-    numbers: &[u32],
-    judgements: &mut [u8],
-) -> usize
-    ensures { Ran B.ArrivalBook.depth (B.ArrivalBook.seen book.old) places.now numbers.now judgements.old result judgements.new }
+fn run<B: ArrivalBook + Drop>(places: &[usize], numbers: &[u32], judgements: &mut [u8]) -> usize
+    ensures { Ran B.ArrivalBook.depth new_book places.now numbers.now judgements.old result judgements.new }
 {
+    let mut book = B::new();
     let count = places.len().min(numbers.len()).min(judgements.len());
+    // An index and no zip of the three: what is written through an adapter of `iter_mut` no proof can know.
     for i in 0..count {
-        judgements[i] = code_of(judge_and_note(book, places[i], numbers[i]));
+        judgements[i] = code_of(judge_and_note(&mut book, places[i], numbers[i]));
     }
     count
 }
@@ -40,8 +38,7 @@ pub extern "C" fn arrivals_mask_run(
 ) -> usize
     ensures { Ran 64 new_book places.now numbers.now judgements.old result judgements.new }
 {
-    let mut book = MaskBook::new();
-    run(&mut book, places, numbers, judgements)
+    run::<MaskBook>(places, numbers, judgements)
 }
 
 // A run of the list book.
@@ -53,6 +50,5 @@ pub extern "C" fn arrivals_list_run(
 ) -> usize
     ensures { Ran 24 new_book places.now numbers.now judgements.old result judgements.new }
 {
-    let mut book = ListBook::new();
-    run(&mut book, places, numbers, judgements)
+    run::<ListBook>(places, numbers, judgements)
 }

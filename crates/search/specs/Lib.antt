@@ -1,2 +1,3 @@
 -- What the search finds.
 pub mod First
+pub mod Places

@@ -8,38 +8,28 @@ ghost use Rattle.search_examples.specs.Peers.{same_peer, held_under};
 use search::{Keyed, find};
 
 // The key: where datagrams of a neighbour come from.
-#[derive(Clone, Copy)]
+#[derive(Clone, Copy, PartialEq, Eq)]
 pub struct Peer {
     pub address: [u8; 4],
     pub port: u16,
 }
 
-// The record: nobody, or a peer with the time at which it was last heard.
+// The record: a neighbour, with the time at which it was last heard. A place of the list holds one, or nobody.
 #[derive(Clone, Copy)]
-pub enum Held {
-    Nobody,
-    Somebody(Peer, u64),
+pub struct Neighbour {
+    pub peer: Peer,
+    pub heard: u64,
 }
 
-// A derived `==` would say nothing of the array, so the fields are compared one by one.
-fn same(a: &Peer, b: &Peer) -> bool
-    ensures { result ≡ same_peer a.now b.now }
-{
-    a.address == b.address && a.port == b.port
-}
-
-impl Keyed<Peer> for Held {
-    ghost under = { held_under };
+impl Keyed<Peer> for Neighbour {
+    ghost under = { λ n. same_peer n.peer };
 
     fn is_under(&self, key: &Peer) -> bool {
-        match *self {
-            Held::Nobody => false,
-            Held::Somebody(peer, _) => same(&peer, key),
-        }
+        self.peer == *key
     }
 }
 
-pub fn place_of(held: &[Held], peer: &Peer) -> Option<usize>
+pub fn place_of(held: &[Option<Neighbour>], peer: &Peer) -> Option<usize>
     ensures { result ≡ first_under (λ x. held_under x peer.now) held.now }
 {
     find(held, peer)
@@ -57,13 +47,20 @@ mod tests {
         Peer { address, port }
     }
 
-    fn held() -> [Held; 5] {
+    fn neighbour(address: [u8; 4], port: u16, heard: u64) -> Option<Neighbour> {
+        Some(Neighbour {
+            peer: peer(address, port),
+            heard,
+        })
+    }
+
+    fn held() -> [Option<Neighbour>; 5] {
         [
-            Held::Nobody,
-            Held::Somebody(peer(AWAY, 1720), 9),
-            Held::Somebody(peer(HOME, 1720), 8),
-            Held::Somebody(peer(HOME, 1721), 7),
-            Held::Somebody(peer(HOME, 1720), 6),
+            None,
+            neighbour(AWAY, 1720, 9),
+            neighbour(HOME, 1720, 8),
+            neighbour(HOME, 1721, 7),
+            neighbour(HOME, 1720, 6),
         ]
     }
 
@@ -82,6 +79,6 @@ mod tests {
     #[test]
     fn finds_nobody_in_an_empty_list(rt: HostRuntime) {
         assert_eq!(rt; place_of(&[], &peer(HOME, 1720)), None);
-        assert_eq!(rt; place_of(&[Held::Nobody; 3], &peer([0, 0, 0, 0], 0)), None);
+        assert_eq!(rt; place_of(&[None; 3], &peer([0, 0, 0, 0], 0)), None);
     }
 }

@@ -1,23 +1,11 @@
--- The search's turns: the records passed so far do not change the answer.
-use Rattle.std.proofs.Common.{sym, refl, ◌∙◌}
-use Rattle.search.proofs.FirstLaws.{first_here, first_next, first_end, first_means}
+-- What the library's search answers is the first under the key.
+use Rattle.std.proofs.Common.{rules, sym, ◌∙◌}
+use Rattle.std.proofs.lemmas.Iterator.{YieldsList-from_slice}
+use Rattle.std.proofs.lemmas.Iterator.Search.{position_from_yields_List}
+use Rattle.search.proofs.FirstLaws.{first_is}
 use Rattle.search.proofs.find.Goals as goal
 
-pub loop-i-init : goal.loop-i-init
-loop-i-init g c = refl
-
-pub returns-then-is_under : goal.returns-then-is_under
-returns-then-is_under g c =
-    let xs = c.args.records.now in
-    let e = c.loop-i.invariant ∙ first_here (λ x. g.R.Keyed.under x c.args.key.now) xs c.loop-i.i c.index-records-i.result c.loop-i-test.true c.index-records-i.is (sym c.if-is_under.ensures) in
-    record { first = sym e; meaning = first_means (λ x. g.R.Keyed.under x c.args.key.now) xs _ e }
-
-pub loop-i-preserved : goal.loop-i-preserved
-loop-i-preserved g c =
-    c.loop-i.invariant ∙ first_next (λ x. g.R.Keyed.under x c.args.key.now) c.args.records.now c.loop-i.i c.index-records-i.result c.loop-i-test.true c.index-records-i.is (sym c.if-is_under.ensures)
-
-pub returns : goal.returns
-returns g c =
-    let xs = c.args.records.now in
-    let e = c.loop-i.invariant ∙ first_end (λ x. g.R.Keyed.under x c.args.key.now) xs c.loop-i.i c.loop-i.i c.loop-i-test.false in
-    record { first = sym e; meaning = first_means (λ x. g.R.Keyed.under x c.args.key.now) xs _ e }
+pub returns-clause-first : goal.returns-clause-first
+returns-clause-first g c =
+    let test = λ (x : g.row.R.Denot). g.R.Keyed.under x c.args.key.now in
+    position_from_yields_List test _ _ _ c.position.ensures.ran (YieldsList-from_slice c.args.records.now cc) (λ x b q k. search rules) ∙ sym (first_is test c.args.records.now)

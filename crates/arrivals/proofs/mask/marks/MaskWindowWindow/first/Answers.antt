@@ -6,4 +6,4 @@ use Rattle.arrivals.specs.BitLaws.{bit_odd, bit_one}
 use Rattle.arrivals.proofs.mask.marks.MaskWindowWindow.first.Goals as goal
 
 pub returns : goal.returns
-returns c = window_first 64 c.args.number (bit 1) (omega arith) c.requires (bit_odd 1 refl) (λ j p _. bit_one j p)
+returns c = window_first 64 c.args.number.value (bit 1) (omega arith) c.args.number.in_range (bit_odd 1 refl) (λ j p _. bit_one j p)
