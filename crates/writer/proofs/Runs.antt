@@ -18,7 +18,7 @@ use Rattle.writer.specs.Drafts.{Draft, draft_says, fresh, first_of, unless, with
 use Rattle.writer.specs.Refusals.{refused_at}
 use Rattle.writer.specs.Runs.{content_in, part_added, add_all, if_accepted, accepted, Holds, Closed, WhatIsClosedReads, is_written, WhatFitsIsWritten, ReadsAs, Run, Written}
 use Rattle.writer.specs.Values.{Item, Part, part_of, part_octets, body_octets, datagram_octets, placed_from, every, within, data_of}
-use Rattle.writer.proofs.Answering.{clear_of, passes}
+use Rattle.writer.proofs.Answering.{clear_of, passes, took}
 use Rattle.writer.proofs.Trips.{parts_read}
 use Rattle.writer.proofs.Written.{item_readable}
 
@@ -102,11 +102,6 @@ all_push : (ps : List Part) (p : Part) → AllOf Readable ps → Readable p → 
 all_push [] p all h = (h, tt)
 all_push (q ∷ ps) p all h = (all.0, all_push ps p all.1 h)
 
--- a call that was accepted
-took : (o : Option Refusal) (x e : Draft) → unless o x ≡ Ok e → (o ≡ None) × (x ≡ e)
-took None x e h = (refl, cc)
-took (Some f) x e h = absurd (clash h)
-
 pub open_holds : (d e : Draft) (n : ℕ) (a : Bool) → d.room ≤ 1024 → open_of d n a ≡ Ok e → Holds n a [] e
 open_holds d e n a small h =
     let t = took (against_opening d.marks d.room n) _ e h in
@@ -118,7 +113,7 @@ part_holds : (d e : Draft) (n : ℕ) (a : Bool) (ps : List Part) (p : Part) (ins
 part_holds d e n a ps p inside k r h =
     let x = part_octets p in
     let t = took (against_payload d.marks d.room (type_of p.content) (length p.octets) inside) _ e h in
-    let fit = (passes d.marks d.room (type_of p.content) (length p.octets) inside t.0).2 in
+    let fit = (passes d.marks d.room (type_of p.content) (length p.octets) inside t.0).1 in
     let body : body_octets ps ++ x ≡ body_octets (ps ++ p ∷ []) = flat_map_more part_octets [] ps p in
     let long = length-append (body_octets ps) x in
     let more : length (body_octets ps ++ x) ≡ length (body_octets (ps ++ p ∷ [])) = ap length body in
@@ -139,11 +134,11 @@ part_holds d e n a ps p inside k r h =
 pub add_holds : (d e : Draft) (n : ℕ) (a : Bool) (ps : List Part) (x : Addition) → Holds n a ps d → add_of d x ≡ Ok e → Holds n a (ps ++ part_added x ∷ []) e
 add_holds d e n a ps (item i) k h =
     let t = took (against_payload d.marks d.room (type_of i.content) (length (data_of i.content)) (within i)) _ e h in
-    let in' = (passes d.marks d.room (type_of i.content) (length (data_of i.content)) (within i) t.0).1 in
+    let in' = (passes d.marks d.room (type_of i.content) (length (data_of i.content)) (within i) t.0).0 in
     part_holds d e n a ps (part_of i) (within i) k (item_readable i in') h
 add_holds d e n a ps (typed s c x) k h =
     let t = took (against_payload d.marks d.room s (length x) (well_formed s x)) _ e h in
-    let in' = (passes d.marks d.room s (length x) (well_formed s x) t.0).1 in
+    let in' = (passes d.marks d.room s (length x) (well_formed s x) t.0).0 in
     let same = typed_type s c x in' in
     part_holds d e n a ps (part_added (typed s c x)) (well_formed s x) k (typed_readable s c x in') (ap (λ y. payload_of d y c x (well_formed s x)) same ∙ h)
 

@@ -1,27 +1,49 @@
-// The types of payload that are written.
+// The types of payload that have a meaning here.
 ghost use Rattle.std.specs.Prelude.{◌≡◌};
-ghost use Rattle.writer.specs.Drafts.{deserving_type};
-ghost use Rattle.writer.specs.Values.{supported_type};
+ghost use Rattle.writer.specs.Kinds.{number_of, deserving_kind, kind_of};
 
-pub const CALL_MESSAGE: u8 = 1;
-
-pub const I_AM_ALIVE: u8 = 3;
-
-pub const ACK: u8 = 4;
-
-pub const NACK: u8 = 5;
-
-pub const NON_STANDARD: u8 = 6;
-
-pub(crate) fn is_supported(kind: u8) -> bool
-    ensures { result ≡ supported_type kind }
-{
-    matches!(kind, CALL_MESSAGE | I_AM_ALIVE | ACK | NACK | NON_STANDARD)
+// The number is the one that a payload's header has.
+#[derive(Clone, Copy, Debug, PartialEq, Eq)]
+pub enum Kind {
+    CallMessage = 1,
+    IAmAlive = 3,
+    Ack = 4,
+    Nack = 5,
+    NonStandard = 6,
 }
 
-// An Ack may be asked for only along with something other than Acks and Nacks.
-pub(crate) fn deserves_ack(kind: u8) -> bool
-    ensures { result ≡ deserving_type kind }
-{
-    !matches!(kind, ACK | NACK)
+// A type without a meaning here, by its number.
+#[derive(Clone, Copy, Debug, PartialEq, Eq)]
+pub struct UnsupportedType(pub u8);
+
+impl TryFrom<u8> for Kind {
+    type Error = UnsupportedType;
+
+    ghost try_from_gives = { λ number r. r ≡ kind_of number };
+
+    fn try_from(number: u8) -> Result<Kind, UnsupportedType> {
+        Ok(match number {
+            1 => Kind::CallMessage,
+            3 => Kind::IAmAlive,
+            4 => Kind::Ack,
+            5 => Kind::Nack,
+            6 => Kind::NonStandard,
+            _ => return Err(UnsupportedType(number)),
+        })
+    }
+}
+
+impl Kind {
+    pub fn number(self) -> u8
+        ensures { result ≡ number_of self }
+    {
+        self as u8
+    }
+
+    // An Ack may be asked for only along with something other than Acks and Nacks.
+    pub fn deserves_ack(self) -> bool
+        ensures { result ≡ deserving_kind self }
+    {
+        !matches!(self, Kind::Ack | Kind::Nack)
+    }
 }
