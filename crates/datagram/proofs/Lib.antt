@@ -1,7 +1,5 @@
 pub mod Passing
 pub mod Taking
-pub mod Acks
-pub mod Nacks
 pub mod Fields
 pub mod Places
 pub mod Accepted

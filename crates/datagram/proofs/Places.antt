@@ -6,7 +6,12 @@ use Rattle.datagram.specs.declared.fault.Question.TheVariants.{HoldsPayloadHeade
 use Rattle.datagram.specs.declared.fault.Layer.TheVariants as layer
 use Rattle.datagram.specs.Datagrams.{payloads_from, some_deserves}
 use Rattle.datagram.specs.Faults.{no}
-use Rattle.datagram.specs.Lists.{Takes}
+use Rattle.std.specs.Iterator.{YieldsFirstBy}
+use Rattle.std.specs.Option.{option_map, option_flatten}
+use Rattle.std.specs.Result.{result_ok}
+use Rattle.datagram.specs.declared.payload.Payload as payload
+use Rattle.datagram.specs.Views.{payload_says}
+use Rattle.datagram.proofs.Taking.{Gives, viewed}
 use Rattle.datagram.specs.Payloads.{Payload, past, payload_at, deserves_ack}
 use Rattle.datagram.specs.Places.{Place, place, next_at, moved, place_after, payloads_ahead, sound_from, sound_ahead}
 use Rattle.datagram.specs.Results.{map_ok}
@@ -94,18 +99,24 @@ sound_stops d at zero f e = refl
 sound_stops d at (suc n) f e = rw (err_back f (payload_at (drop at d) at) e) refl
 
 -- a step that gave a payload, or none, took it from those that come before any fault
-pub takes_payload : (P Q : Place) (o : Option Payload) → Ok o ≡ next_at P → Q ≡ place_after P → Takes (sound_ahead P) o (sound_ahead Q)
+pub takes_payload : (P Q : Place) (o : Option Payload) → Ok o ≡ next_at P → Q ≡ place_after P → Gives (sound_ahead P) o (sound_ahead Q)
 takes_payload P Q (Some p) e q =
     let more = sound_more P.octets P.from P.left p e in
     let there : Q ≡ place P.octets (past p) (P.left - 1) = q ∙ sym (next_moves P.octets P.from P.left p e) in
-    rw (more, there) (record { gives = refl; leaves = refl })
+    rw (more, there) refl
 takes_payload P Q None e q =
     let none = sound_ends P.octets P.from P.left e in
     let there : Q ≡ P = q ∙ ap (moved P) (sym e) in
-    rw (there, none) (record { gives = refl; leaves = refl })
+    rw (there, none) (refl, refl)
 
-pub takes_nothing : (P Q : Place) (f : Fault) → Err f ≡ next_at P → Q ≡ place_after P → Takes (sound_ahead P) None (sound_ahead Q)
+pub takes_nothing : (P Q : Place) (f : Fault) → Err f ≡ next_at P → Q ≡ place_after P → Gives (sound_ahead P) None (sound_ahead Q)
 takes_nothing P Q f e q =
     let none = sound_stops P.octets P.from P.left f e in
     let there : Q ≡ P = q ∙ ap (moved P) (sym e) in
-    rw (there, none) (record { gives = refl; leaves = refl })
+    rw (there, none) (refl, refl)
+
+-- the same, where the step gives a view of the payload
+pub takes_view : (P Q : Place) (r : Result (Option payload.Payload) Fault) → map_ok (option_map payload_says) r ≡ next_at P → Q ≡ place_after P
+    → YieldsFirstBy payload_says (λ l. l) (sound_ahead P) (option_flatten (result_ok r)) (sound_ahead Q)
+takes_view P Q (Ok o) e q = viewed payload_says o _ _ (takes_payload P Q (option_map payload_says o) e q)
+takes_view P Q (Err f) e q = takes_nothing P Q f e q

@@ -1,7 +1,7 @@
 pub mod Results
-pub mod Lists
 pub mod Faults
 pub mod Layout
+pub mod Kinds
 pub mod Structures
 pub mod Payloads
 pub mod Datagrams

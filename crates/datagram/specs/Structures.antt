@@ -1,5 +1,7 @@
 -- What the data of a payload holds, by the payload's type, or the question that it fails. Assumes nothing.
-use Rattle.std.specs.Prelude.{ℕ, zero, suc, ◌+◌, ◌*◌, Bool, false, cond, ◌&&◌, ◌||◌, List, [], ◌∷◌, length, take, drop, Some, None, Ok, Option, Result, ◌==◌, nat_le}
+use Rattle.std.specs.Prelude.{ℕ, zero, suc, ◌+◌, ◌*◌, Bool, cond, ◌&&◌, List, [], ◌∷◌, length, take, drop, Some, None, Ok, Option, Result, ◌==◌, nat_le}
+use Rattle.std.specs.List.{find, list_any}
+use Rattle.std.specs.Option.{option_map}
 use Rattle.datagram.specs.declared.fault.Question.TheVariants.{HoldsFixedPart, CountsMeetEnd}
 use Rattle.datagram.specs.declared.fault.Layer.TheVariants as layer
 use Rattle.datagram.specs.declared.fault.Fault.{Fault}
@@ -71,8 +73,7 @@ ack_of s at =
 
 -- whether an Ack of these numbers names n
 abbrev pub among : ℕ → List ℕ → Bool
-among n [] = false
-among n (m ∷ ms) = m == n || among n ms
+among n ms = list_any (λ m. m == n) ms
 
 abbrev pub entry_of : List ℕ → Entry
 entry_of e = record { number = be24 e 0; reason = be16 e 3; octets = take (octet e 5) (drop 6 e) }
@@ -95,8 +96,7 @@ nack_of s at =
 
 -- the reason that a Nack gives for n: that of its first entry with this number
 abbrev pub reason_for : ℕ → List Entry → Option ℕ
-reason_for n [] = None
-reason_for n (e ∷ es) = cond (e.number == n) (Some e.reason) (reason_for n es)
+reason_for n es = option_map (λ e. e.reason) (find (λ e. e.number == n) es)
 
 abbrev pub non_standard_of : List ℕ → ℕ → Result NonStandard Fault
 non_standard_of s at =

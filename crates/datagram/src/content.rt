@@ -5,20 +5,11 @@ ghost use Rattle.datagram.specs.Structures.{content_of, type_of};
 ghost use Rattle.datagram.specs.Views.{content_says};
 
 use crate::fault::Fault;
+use crate::kind::Kind;
 use crate::structure::ack::Ack;
 use crate::structure::alive::Alive;
 use crate::structure::nack::Nack;
 use crate::structure::nonstandard::NonStandard;
-
-const CALL_MESSAGE: u8 = 1;
-
-const I_AM_ALIVE: u8 = 3;
-
-const ACK: u8 = 4;
-
-const NACK: u8 = 5;
-
-const NON_STANDARD: u8 = 6;
 
 // A view of the data; that of an unsupported type goes with the type.
 #[derive(Clone, Copy)]
@@ -37,11 +28,11 @@ impl<'d> Content<'d> {
         ensures { result ≡ type_of (content_says self.now) }
     {
         match self {
-            Content::CallMessage(_) => CALL_MESSAGE,
-            Content::IAmAlive(_) => I_AM_ALIVE,
-            Content::Ack(_) => ACK,
-            Content::Nack(_) => NACK,
-            Content::NonStandard(_) => NON_STANDARD,
+            Content::CallMessage(_) => Kind::CallMessage.number(),
+            Content::IAmAlive(_) => Kind::IAmAlive.number(),
+            Content::Ack(_) => Kind::Ack.number(),
+            Content::Nack(_) => Kind::Nack.number(),
+            Content::NonStandard(_) => Kind::NonStandard.number(),
             Content::Unsupported(kind, _) => *kind,
         }
     }
@@ -50,13 +41,15 @@ impl<'d> Content<'d> {
     pub fn read(kind: u8, data: &'d [u8], offset: usize) -> Result<Content<'d>, Fault>
         ensures { map_ok content_says result ≡ content_of kind «data».now offset }
     {
-        Ok(match kind {
-            CALL_MESSAGE => Content::CallMessage(data),
-            I_AM_ALIVE => Content::IAmAlive(Alive::read(data, offset)?),
-            ACK => Content::Ack(Ack::read(data, offset)?),
-            NACK => Content::Nack(Nack::read(data, offset)?),
-            NON_STANDARD => Content::NonStandard(NonStandard::read(data, offset)?),
-            _ => Content::Unsupported(kind, data),
+        let Ok(supported) = Kind::try_from(kind) else {
+            return Ok(Content::Unsupported(kind, data));
+        };
+        Ok(match supported {
+            Kind::CallMessage => Content::CallMessage(data),
+            Kind::IAmAlive => Content::IAmAlive(Alive::read(data, offset)?),
+            Kind::Ack => Content::Ack(Ack::read(data, offset)?),
+            Kind::Nack => Content::Nack(Nack::read(data, offset)?),
+            Kind::NonStandard => Content::NonStandard(NonStandard::read(data, offset)?),
         })
     }
 }

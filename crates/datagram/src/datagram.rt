@@ -6,7 +6,7 @@ ghost use Rattle.datagram.specs.Laws.{PayloadsLieEndToEnd};
 ghost use Rattle.datagram.specs.Places.{payloads_ahead};
 ghost use Rattle.datagram.specs.Views.{place_says, datagram_says};
 
-use crate::fault::{Fault, Layer, Question};
+use crate::fault::{Fault, Question};
 use crate::header::Header;
 use crate::payloads::Payloads;
 use crate::reader::Reader;
@@ -39,11 +39,7 @@ impl<'d> Datagram<'d> {
         let reader = Reader::start(octets, header.payloads);
         let deserving = check_payloads(reader)?;
         if header.wants_ack && !deserving {
-            return Err(Fault {
-                question: Question::AckIsDeserved,
-                layer: Layer::Datagram,
-                offset: 0,
-            });
+            return Err(Question::AckIsDeserved.fails_at(0));
         }
         Ok(Datagram {
             number: header.number,

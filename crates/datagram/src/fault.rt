@@ -1,6 +1,6 @@
 // The questions that a datagram must pass, and the answer that a failed one gives.
 ghost use Rattle.std.specs.Prelude.{◌≡◌};
-ghost use Rattle.datagram.specs.Faults.{number_of};
+ghost use Rattle.datagram.specs.Faults.{number_of, layer_of, no};
 
 // Each question by what it asks for, in the order in which they are put. The number is the one that the outside sees.
 #[derive(Clone, Copy, Debug, PartialEq, Eq)]
@@ -21,6 +21,28 @@ impl Question {
         ensures { result ≡ number_of self }
     {
         self as u8
+    }
+
+    // The layer at which the question is put.
+    fn layer(self) -> Layer
+        ensures { result ≡ layer_of self }
+    {
+        match self {
+            Question::HoldsPayloadHeader | Question::HoldsPayloadData => Layer::Payload,
+            Question::HoldsFixedPart | Question::CountsMeetEnd => Layer::Structure,
+            _ => Layer::Datagram,
+        }
+    }
+
+    // The answer no, at an offset.
+    pub(crate) fn fails_at(self, offset: usize) -> Fault
+        ensures { result ≡ no self (layer_of self) offset }
+    {
+        Fault {
+            question: self,
+            layer: self.layer(),
+            offset,
+        }
     }
 }
 

@@ -2,10 +2,10 @@
 ghost use Rattle.std.specs.Prelude.{◌≡◌};
 ghost use Rattle.datagram.specs.Datagrams.{header_of};
 
-use crate::fault::{Fault, Layer, Question};
+use crate::fault::{Fault, Question};
 
 // A datagram has at most so many octets.
-const MAXIMUM: usize = 1024;
+pub const MAXIMUM: usize = 1024;
 
 #[derive(Clone, Copy)]
 pub struct Header {
@@ -19,25 +19,13 @@ impl Header {
         ensures { result ≡ header_of datagram.now }
     {
         if datagram.len() > MAXIMUM {
-            return Err(Fault {
-                question: Question::AtMostMaximum,
-                layer: Layer::Datagram,
-                offset: MAXIMUM,
-            });
+            return Err(Question::AtMostMaximum.fails_at(MAXIMUM));
         }
         let &[first, high, middle, low, count, ..] = datagram else {
-            return Err(Fault {
-                question: Question::HoldsHeader,
-                layer: Layer::Datagram,
-                offset: datagram.len(),
-            });
+            return Err(Question::HoldsHeader.fails_at(datagram.len()));
         };
         if first >> 4 != 0 {
-            return Err(Fault {
-                question: Question::VersionZero,
-                layer: Layer::Datagram,
-                offset: 0,
-            });
+            return Err(Question::VersionZero.fails_at(0));
         }
         Ok(Header {
             number: u32::from_be_bytes([0, high, middle, low]),

@@ -5,7 +5,7 @@ ghost use Rattle.datagram.specs.Payloads.{payload_at, deserves_ack};
 ghost use Rattle.datagram.specs.Views.{payload_says};
 
 use crate::content::Content;
-use crate::fault::{Fault, Layer, Question};
+use crate::fault::{Fault, Question};
 
 // `data` is a part of the caller's datagram, and `offset` says where that part begins.
 #[derive(Clone, Copy)]
@@ -24,21 +24,12 @@ impl<'d> Payload<'d> {
         ensures within { IfOk result (λ p. p.offset + length p.«data».now ≤ at + length rest.now) }
     {
         let &[kind, c1, c0, l1, l0, ref after @ ..] = rest else {
-            return Err(Fault {
-                question: Question::HoldsPayloadHeader,
-                layer: Layer::Payload,
-                offset: at,
-            });
+            return Err(Question::HoldsPayloadHeader.fails_at(at));
         };
         let length = u16::from_be_bytes([l1, l0]) as usize;
-        if after.len() < length {
-            return Err(Fault {
-                question: Question::HoldsPayloadData,
-                layer: Layer::Payload,
-                offset: at + 3,
-            });
-        }
-        let (data, _) = after.split_at(length);
+        let Some((data, _)) = after.split_at_checked(length) else {
+            return Err(Question::HoldsPayloadData.fails_at(at + 3));
+        };
         let offset = at + 5;
         let content = Content::read(kind >> 1, data, offset)?;
         Ok(Payload {

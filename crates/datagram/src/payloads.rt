@@ -1,9 +1,7 @@
 // The payloads of a datagram that has passed every question, one by one.
-ghost use Rattle.std.specs.Prelude.{◌≡◌, length};
-ghost use Rattle.std.specs.Option.{option_map};
-ghost use Rattle.datagram.specs.Lists.{Takes};
+ghost use Rattle.std.specs.Prelude.{◌≡◌};
 ghost use Rattle.datagram.specs.Views.{payload_says, payloads_say};
-ghost use Rattle.std.specs.Iterator.{at_most};
+ghost use Rattle.std.specs.Iterator.{YieldsFirstBy, item_count};
 
 use crate::payload::Payload;
 use crate::reader::Reader;
@@ -25,14 +23,11 @@ impl<'d> Payloads<'d> {
 impl<'d> Iterator for Payloads<'d> {
     type Item = Payload<'d>;
 
-    ghost remaining = { λ p. at_most (length (payloads_say p)) };
+    ghost remaining = { item_count payloads_say };
 
-    ghost next_gives = { λ p r q. Takes (payloads_say p) (option_map payload_says r) (payloads_say q) };
+    ghost next_gives = { YieldsFirstBy payload_says payloads_say };
 
     fn next(&mut self) -> Option<Payload<'d>> {
-        match self.reader.next() {
-            Ok(payload) => payload,
-            Err(_) => None,
-        }
+        self.reader.next().ok().flatten()
     }
 }

@@ -5,7 +5,7 @@ ghost use Rattle.datagram.specs.Results.{map_ok};
 ghost use Rattle.datagram.specs.Places.{first_place, next_at, place_after};
 ghost use Rattle.datagram.specs.Views.{payload_says, place_says};
 
-use crate::fault::{Fault, Layer, Question};
+use crate::fault::{Fault, Question};
 use crate::payload::Payload;
 
 #[derive(Clone, Copy)]
@@ -34,20 +34,12 @@ impl<'d> Reader<'d> {
     {
         if self.left == 0 {
             if self.at < self.datagram.len() {
-                return Err(Fault {
-                    question: Question::EndsWithLastPayload,
-                    layer: Layer::Datagram,
-                    offset: self.at,
-                });
+                return Err(Question::EndsWithLastPayload.fails_at(self.at));
             }
             return Ok(None);
         }
         let Some(rest) = self.datagram.get(self.at..) else {
-            return Err(Fault {
-                question: Question::HoldsPayloadHeader,
-                layer: Layer::Payload,
-                offset: self.at,
-            });
+            return Err(Question::HoldsPayloadHeader.fails_at(self.at));
         };
         let payload = Payload::read(rest, self.at)?;
         self.at = payload.offset + payload.data.len();

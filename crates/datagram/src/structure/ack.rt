@@ -1,13 +1,11 @@
 // An Ack: the numbers of datagrams that arrived.
-ghost use Rattle.std.specs.Prelude.{◌≡◌, length};
+ghost use Rattle.std.specs.Prelude.{◌≡◌};
 ghost use Rattle.datagram.specs.Results.{map_ok};
-ghost use Rattle.datagram.specs.Lists.{Takes};
 ghost use Rattle.datagram.specs.Structures.{ack_of, among};
 ghost use Rattle.datagram.specs.Views.{ack_says};
-ghost use Rattle.std.specs.Iterator.{at_most};
+ghost use Rattle.std.specs.Iterator.{YieldsFirst, item_count};
 
-use crate::fault::Fault;
-use crate::structure::{miscounted, too_short};
+use crate::fault::{Fault, Question};
 
 // The numbers that are still to come, three octets each.
 #[derive(Clone, Copy)]
@@ -18,9 +16,9 @@ pub struct Ack<'d> {
 impl<'d> Iterator for Ack<'d> {
     type Item = u32;
 
-    ghost remaining = { λ a. at_most (length (ack_says a)) };
+    ghost remaining = { item_count ack_says };
 
-    ghost next_gives = { λ a r b. Takes (ack_says a) r (ack_says b) };
+    ghost next_gives = { YieldsFirst ack_says };
 
     fn next(&mut self) -> Option<u32> {
         let &[high, middle, low, ref rest @ ..] = self.octets else {
@@ -32,25 +30,20 @@ impl<'d> Iterator for Ack<'d> {
 }
 
 impl<'d> Ack<'d> {
-    pub fn names(self, number: u32) -> bool
+    pub fn names(mut self, number: u32) -> bool
         ensures { result ≡ among number (ack_says self.entry) }
     {
-        for named in self {
-            if named == number {
-                return true;
-            }
-        }
-        false
+        self.any(|named| named == number)
     }
 
     pub(crate) fn read(data: &'d [u8], offset: usize) -> Result<Ack<'d>, Fault>
         ensures { map_ok ack_says result ≡ ack_of «data».now offset }
     {
         let [count, octets @ ..] = data else {
-            return Err(too_short(offset));
+            return Err(Question::HoldsFixedPart.fails_at(offset));
         };
         if octets.len() != 3 * (*count >> 1) as usize {
-            return Err(miscounted(offset));
+            return Err(Question::CountsMeetEnd.fails_at(offset));
         }
         Ok(Ack { octets })
     }

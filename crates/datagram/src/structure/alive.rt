@@ -5,8 +5,7 @@ ghost use Rattle.datagram.specs.Results.{map_ok};
 ghost use Rattle.datagram.specs.Structures.{cookie_of, alive_of};
 ghost use Rattle.datagram.specs.Views.{alive_says};
 
-use crate::fault::Fault;
-use crate::structure::{miscounted, too_short};
+use crate::fault::{Fault, Question};
 
 #[derive(Clone, Copy)]
 pub struct Alive<'d> {
@@ -31,11 +30,11 @@ impl<'d> Alive<'d> {
         ensures { map_ok alive_says result ≡ alive_of «data».now offset }
     {
         let &[v1, v0, c1, c0, ref cookie @ ..] = data else {
-            return Err(too_short(offset));
+            return Err(Question::HoldsFixedPart.fails_at(offset));
         };
         let sized = u16::from_be_bytes([c1, c0]);
         if cookie.len() != (sized >> 1) as usize {
-            return Err(miscounted(offset));
+            return Err(Question::CountsMeetEnd.fails_at(offset));
         }
         Ok(Alive {
             validity: u16::from_be_bytes([v1, v0]),

@@ -1,15 +1,13 @@
 // A Nack: the numbers of datagrams that were rejected, each with a reason.
-ghost use Rattle.std.specs.Prelude.{◌≡◌, length};
+ghost use Rattle.std.specs.Prelude.{◌≡◌};
 ghost use Rattle.std.specs.Option.{option_map};
 ghost use Rattle.datagram.specs.Results.{map_ok};
-ghost use Rattle.datagram.specs.Lists.{Takes};
 ghost use Rattle.datagram.specs.Places.{first_entry, after_first, entries_meet_end};
 ghost use Rattle.datagram.specs.Structures.{nack_of, reason_for};
 ghost use Rattle.datagram.specs.Views.{entry_says, entries_in, nack_says};
-ghost use Rattle.std.specs.Iterator.{at_most};
+ghost use Rattle.std.specs.Iterator.{YieldsFirstBy, item_count};
 
-use crate::fault::Fault;
-use crate::structure::{miscounted, too_short};
+use crate::fault::{Fault, Question};
 
 // One rejected datagram, and why.
 #[derive(Clone, Copy)]
@@ -29,9 +27,9 @@ pub struct Nack<'d> {
 impl<'d> Iterator for Nack<'d> {
     type Item = Entry<'d>;
 
-    ghost remaining = { λ n. at_most (length (nack_says n)) };
+    ghost remaining = { item_count nack_says };
 
-    ghost next_gives = { λ n r m. Takes (nack_says n) (option_map entry_says r) (nack_says m) };
+    ghost next_gives = { YieldsFirstBy entry_says nack_says };
 
     fn next(&mut self) -> Option<Entry<'d>> {
         self.take_entry()
@@ -40,15 +38,11 @@ impl<'d> Iterator for Nack<'d> {
 
 impl<'d> Nack<'d> {
     // The reason given for a number: that of the first entry with it.
-    pub fn reason_for(self, number: u32) -> Option<u16>
+    pub fn reason_for(mut self, number: u32) -> Option<u16>
         ensures { result ≡ reason_for number (nack_says self.entry) }
     {
-        for entry in self {
-            if entry.number == number {
-                return Some(entry.reason);
-            }
-        }
-        None
+        self.find(|entry| entry.number == number)
+            .map(|entry| entry.reason)
     }
 
     // The next entry, if one is left and whole.
@@ -62,10 +56,7 @@ impl<'d> Nack<'d> {
         let &[n2, n1, n0, r1, r0, length, ref after @ ..] = self.octets else {
             return None;
         };
-        if after.len() < length as usize {
-            return None;
-        }
-        let (data, rest) = after.split_at(length as usize);
+        let (data, rest) = after.split_at_checked(length as usize)?;
         self.octets = rest;
         self.left -= 1;
         Some(Entry {
@@ -87,14 +78,14 @@ impl<'d> Nack<'d> {
         ensures { map_ok nack_says result ≡ nack_of «data».now offset }
     {
         let [count, octets @ ..] = data else {
-            return Err(too_short(offset));
+            return Err(Question::HoldsFixedPart.fails_at(offset));
         };
         let nack = Nack {
             octets,
             left: *count >> 1,
         };
         if !nack.meets_end() {
-            return Err(miscounted(offset));
+            return Err(Question::CountsMeetEnd.fails_at(offset));
         }
         Ok(nack)
     }

@@ -4,8 +4,7 @@ ghost use Rattle.datagram.specs.Results.{map_ok};
 ghost use Rattle.datagram.specs.Structures.{non_standard_of};
 ghost use Rattle.datagram.specs.Views.{non_standard_says};
 
-use crate::fault::Fault;
-use crate::structure::{miscounted, too_short};
+use crate::fault::{Fault, Question};
 
 #[derive(Clone, Copy)]
 pub struct NonStandard<'d> {
@@ -18,13 +17,12 @@ impl<'d> NonStandard<'d> {
         ensures { map_ok non_standard_says result ≡ non_standard_of «data».now offset }
     {
         let [l1, l0, rest @ ..] = data else {
-            return Err(too_short(offset));
+            return Err(Question::HoldsFixedPart.fails_at(offset));
         };
         let length = u16::from_be_bytes([*l1, *l0]) as usize;
-        if rest.len() < length {
-            return Err(miscounted(offset));
-        }
-        let (oid, free) = rest.split_at(length);
+        let Some((oid, free)) = rest.split_at_checked(length) else {
+            return Err(Question::CountsMeetEnd.fails_at(offset));
+        };
         Ok(NonStandard { oid, free })
     }
 }

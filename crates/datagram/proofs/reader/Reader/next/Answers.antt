@@ -1,17 +1,10 @@
-use Rattle.std.proofs.Common.{◌≡◌, ◌≤◌, length, drop, ap, ◌∙◌, arith}
+use Rattle.std.proofs.Common.{◌≡◌, drop, ap, ◌∙◌, arith}
 use Rattle.std.proofs.lemmas.List.{take_rest}
 use Rattle.std.proofs.lemmas.Result.{err_from_is_err_and}
 use Rattle.datagram.specs.Payloads.{payload_at}
-use Rattle.datagram.proofs.Places.{next_gives, next_refuses, next_moves, next_stays, payload_past}
+use Rattle.datagram.proofs.Places.{next_gives, next_refuses, next_moves, next_stays}
 use Rattle.datagram.proofs.reader.Reader.next.Goals as goal
 use Rattle.datagram.proofs.reader.Reader.next.Goals.{In-Some}
-
-pub returns-in_default : goal.returns-in_default
-returns-in_default c =
-    let r = c.args.self.now in
-    let h : length r.datagram.now ≤ r.at = omega (arith, c.in_default.ensures.lookup.0) in
-    let e = next_refuses r.datagram.now r.at r.left _ (omega arith) (payload_past r.datagram.now r.at h) in
-    record { gives = e; moves = next_stays _ _ _ _ e }
 
 -- what `get` gave is the datagram from the reader's place on
 same_part : (c : In-Some) → payload_at c.in-Some.rest.now c.args.self.now.at ≡ payload_at (drop c.args.self.now.at c.args.self.now.datagram.now) c.args.self.now.at

@@ -1,14 +1,9 @@
-use Rattle.std.proofs.Common.{sym, ap, ◌∙◌}
-use Rattle.datagram.specs.Structures.{among}
-use Rattle.datagram.proofs.Acks.{found, passed}
-use Rattle.datagram.proofs.Taking.{none_left}
+use Rattle.std.proofs.Common.{◌==◌, refl, rules}
+use Rattle.std.proofs.lemmas.Iterator.Consumers.{YieldsList-from_first}
+use Rattle.std.proofs.lemmas.Iterator.Search.{any_from_yields_List}
+use Rattle.datagram.specs.Views.{ack_says}
 use Rattle.datagram.proofs.structure.ack.Ack.names.Goals as goal
-
-pub returns-then-named-number : goal.returns-then-named-number
-returns-then-named-number c = found c.args.number _ _ _ c.in-Some.ensures.steps c.if-named-number.true ∙ sym c.loop-named.invariant.2
-
-pub loop-named-preserved : goal.loop-named-preserved
-loop-named-preserved c = (tt, tt, c.loop-named.invariant.2 ∙ passed c.args.number _ _ _ c.in-Some.ensures.steps c.if-named-number.false)
+use borrow.Author.Tests.{tests}
 
 pub returns : goal.returns
-returns c = sym (c.loop-named.invariant.2 ∙ ap (among c.args.number) (none_left _ _ c.in-None.ensures.steps))
+returns c = any_from_yields_List (λ m. m == c.args.number) c.any.new.self _ c.any.result c.any.ensures.ran (YieldsList-from_first (λ x. x) ack_says {s = c.args.self} _ refl) (λ x b q k. search (rules, tests))

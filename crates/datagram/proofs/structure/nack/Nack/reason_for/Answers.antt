@@ -1,14 +1,14 @@
-use Rattle.std.proofs.Common.{sym, ap, ◌∙◌}
-use Rattle.datagram.specs.Structures.{reason_for}
-use Rattle.datagram.proofs.Nacks.{reason_found, reason_later}
-use Rattle.datagram.proofs.Taking.{none_left}
+use Rattle.std.proofs.Common.{◌≡◌, ◌==◌, refl, rules}
+use Rattle.std.proofs.lemmas.Iterator.Consumers.{YieldsList-from_first}
+use Rattle.std.proofs.lemmas.Iterator.Search.{find_from_yields_List}
+use Rattle.std.specs.List.{find}
+use Rattle.std.specs.Option.{option_map}
+use Rattle.datagram.specs.Views.{entry_says, nack_says}
 use Rattle.datagram.proofs.structure.nack.Nack.reason_for.Goals as goal
-
-pub returns-then-entry-number : goal.returns-then-entry-number
-returns-then-entry-number c = reason_found c.args.number _ _ _ c.in-Some.ensures.steps c.if-entry-number.true ∙ sym c.loop-entry.invariant.2
-
-pub loop-entry-preserved : goal.loop-entry-preserved
-loop-entry-preserved c = (tt, tt, c.loop-entry.invariant.2 ∙ reason_later c.args.number _ _ _ c.in-Some.ensures.steps c.if-entry-number.false)
+use borrow.Author.Tests.{tests}
 
 pub returns : goal.returns
-returns c = sym (c.loop-entry.invariant.2 ∙ ap (reason_for c.args.number) (none_left _ _ c.in-None.ensures.steps))
+returns c =
+    let found : option_map entry_says c.find.result ≡ find (λ e. e.number == c.args.number) (nack_says c.args.self) =
+    find_from_yields_List (λ e. e.number == c.args.number) c.find.new.self _ c.find.result c.find.ensures.ran (YieldsList-from_first entry_says nack_says {s = c.args.self} _ refl) (λ x b q k. search (rules, tests)) in
+    rw (← found) (search rules)
