@@ -1,25 +1,23 @@
 -- What a call answers, by what was found against it. Assumes nothing.
-use Rattle.std.proofs.Common.{◌≡◌, ℕ, zero, suc, ◌+◌, ◌-◌, ◌%◌, ◌<◌, ◌≤◌, min, Bool, true, false, not, ◌&&◌, ◌||◌, eqb, ltb, leb, List, [], ◌∷◌, ◌++◌, map, length, take, drop, set, Some, None, Ok, Err, Option, Result, sym, refl, ap, ◌∙◌, arith}
-use Rattle.std.proofs.lemmas.List.{length-map, length-set, drop-set-lt}
+use Rattle.std.proofs.Common.{◌≡◌, ℕ, zero, suc, ◌+◌, ◌-◌, ◌<◌, ◌≤◌, min, Bool, true, false, not, ◌&&◌, ltb, leb, List, [], ◌∷◌, length, take, drop, set, Some, None, Ok, Err, Option, Result, sym, refl, ap, ◌∙◌, arith}
+use Rattle.std.proofs.lemmas.List.{length-set, drop-set-lt}
 use Rattle.std.proofs.lemmas.Bool.{leb-true, leb-false, lt-leb, lt-ltb, and_parts}
 use Rattle.std.specs.List.{flat_map}
-use Rattle.datagram.specs.declared.structure.nack.Entry.{Entry}
-use Rattle.datagram.specs.Layout.{odd, octet, payload_octets, counted_octets}
+use Rattle.datagram.specs.Layout.{payload_octets, counted_octets}
 use Rattle.datagram.proofs.Passing.{clash}
 use Rattle.datagram.specs.Structures.{Content, type_of}
-use Rattle.datagram.specs.Views.{entry_says}
-use Rattle.writer.specs.declared.kind.Kind.{Kind}
-use Rattle.writer.specs.declared.kind.Kind.TheVariants.{CallMessage, IAmAlive, Ack, Nack, NonStandard}
+use Rattle.datagram.specs.declared.kind.Kind.{Kind}
+use Rattle.datagram.specs.declared.kind.Kind.TheVariants.{CallMessage, IAmAlive, Ack, Nack, NonStandard}
 use Rattle.writer.specs.declared.marks.Marks.{Marks}
 use Rattle.writer.specs.declared.refusal.Found.TheVariants.{NoRoom, TypeNotWritten, OutsideField}
 use Rattle.writer.specs.declared.refusal.Refusal.{Refusal}
 use Rattle.writer.specs.declared.writer.Writer.{Writer}
-use Rattle.writer.specs.Drafts.{draft_of, draft_says, first_of, unless, is_open, fits, against_payload, against_closing, deserving_type, reserved_clear, item, add_of, closable, closed_marks, close_of, Does, done, size}
+use Rattle.writer.specs.Drafts.{draft_of, draft_says, first_of, unless, is_open, fits, against_payload, against_closing, item, add_of, closable, closed_marks, close_of, Does, done, size}
 use Rattle.writer.specs.Counted.{Counts}
-use Rattle.writer.specs.Kinds.{number_of}
+use Rattle.datagram.specs.Kinds.{number_of}
 use Rattle.writer.specs.Pieces.{Measures, Grows, against_data}
 use Rattle.writer.specs.Refusals.{refused_at}
-use Rattle.writer.specs.Values.{Item, supported_type, data_of, octets_of_entry, every, entry_within, content_within, within}
+use Rattle.writer.specs.Values.{Item, supported_type, data_of, every, content_within, within}
 
 -- past every question
 pub clear_of : (b : Bool) (f : Refusal) (o : Option Refusal) → first_of b f o ≡ None → (b ≡ true) × (o ≡ None)
@@ -125,23 +123,6 @@ module _ {X : Type 0} {k : Kind} {f : X → List ℕ} {ok : X → Bool} {es : Li
   unfolding added
   counted_added w' u was grows =
       item_added w w' added (took (against_item w added) tt u (sym counted_asked ∙ was)).0 (rw (counts.kind, counts.«data») grows)
-
--- the reserved bit beside a count
-or_true : (b : Bool) → (b || true) ≡ true
-or_true true = refl
-or_true false = refl
-
-pub clear_empty : (t : ℕ) (x : List ℕ) → length x < 1 → reserved_clear t x ≡ true
-clear_empty t [] h = or_true (deserving_type t)
-clear_empty t (n ∷ x) h = absurd (omega arith)
-
-even_bit : (k : ℕ) → k < 2 → eqb k 0 ≡ not (eqb k 1)
-even_bit zero h = refl
-even_bit (suc zero) h = refl
-even_bit (suc (suc k)) h = absurd (omega arith)
-
-pub clear_bit : (t v : ℕ) (x : List ℕ) → deserving_type t ≡ false → v ≡ octet x 0 → eqb (v % 2) 0 ≡ reserved_clear t x
-clear_bit t v x none is = even_bit (v % 2) (omega arith) ∙ ap (λ k. not (odd k)) is ∙ ap (λ b. b || not (odd (octet x 0))) (sym none)
 
 -- COUNT is written
 take_set_both : (n : ℕ) (l : List ℕ) (i v : ℕ) → take n (set l i v) ≡ set (take n l) i v

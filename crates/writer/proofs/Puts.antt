@@ -1,14 +1,14 @@
 -- Octets put at the mark, one piece behind the other. Assumes nothing.
-use Rattle.std.proofs.Common.{◌≡◌, ℕ, zero, suc, ◌+◌, ◌*◌, ◌<◌, ◌≤◌, Bool, List, [], ◌∷◌, ◌++◌, length, get_or, take, drop, sym, refl, ap, ◌∙◌, subst, arith}
+use Rattle.std.proofs.Common.{◌≡◌, ℕ, ◌+◌, ◌*◌, ◌<◌, ◌≤◌, Bool, List, [], ◌∷◌, ◌++◌, length, get_or, take, drop, sym, refl, ap, ◌∙◌, subst, arith}
 use Rattle.std.specs.List.{flat_map}
 use Rattle.std.proofs.lemmas.List.Folds.{length-flat_map-take}
-use Rattle.std.proofs.lemmas.List.{length-append, append_assoc, append-nil, drop-drop, take_more, take_all, flat_map_more}
+use Rattle.std.proofs.lemmas.List.{length-append, append_assoc, drop-drop, take_more, flat_map_more}
 use Rattle.datagram.specs.Layout.{octets16, payload_octets}
-use Rattle.writer.specs.declared.kind.Kind.{Kind}
-use Rattle.writer.specs.declared.kind.Kind.TheVariants.{CallMessage, IAmAlive, Ack, Nack, NonStandard}
+use Rattle.datagram.specs.declared.kind.Kind.{Kind}
+use Rattle.datagram.specs.declared.kind.Kind.TheVariants.{CallMessage, IAmAlive, Ack, Nack, NonStandard}
 use Rattle.writer.specs.declared.marks.Marks.{Marks}
 use Rattle.writer.specs.Drafts.{draft_of, deserving_type, moved_by, counted, grown}
-use Rattle.writer.specs.Kinds.{number_of, deserving_kind}
+use Rattle.datagram.specs.Kinds.{number_of, deserving_kind}
 use Rattle.writer.specs.Pieces.{Put, Grows}
 
 abbrev moved_to : Marks → ℕ → Marks
@@ -60,18 +60,10 @@ grows_by {b} {b₀} {x} {b₁} {b'} {m} {m₀} {m₁} {m'} k w over start p left
     }
 
 -- the octets of each element, in order
-pub puts_none : (b : List ℕ) (m : Marks) → Put b m [] b m
-puts_none b m =
-    let e : m.mark + 0 ≡ m.mark = omega arith in
-    record { moves = ap (moved_to m) (sym e); fills = ap (λ k. take k b) e ∙ sym (append-nil (take m.mark b)); rest = refl; long = refl }
-
 pub puts_more : {X : Type 0} {b b₁ b₂ : List ℕ} {m m₁ m₂ : Marks} (f : X → List ℕ) (xs : List X) (i : ℕ) (e : X) → e ≡ get_or xs i e → i < length xs → Put b m (flat_map f (take i xs)) b₁ m₁ → Put b₁ m₁ (f e) b₂ m₂ → Put b m (flat_map f (take (i + 1) xs)) b₂ m₂
 puts_more {b = b} {b₂ = b₂} {m = m} {m₂ = m₂} f xs i e is h p q =
     let more : take i xs ++ e ∷ [] ≡ take (i + 1) xs = ap (λ x. take i xs ++ x ∷ []) is ∙ sym (take_more xs i e h) in
     subst (λ l. Put b m l b₂ m₂) (flat_map_more f [] (take i xs) e ∙ ap (flat_map f) more) (two_puts p q)
-
-pub puts_all : {X : Type 0} {b b' : List ℕ} {m m' : Marks} (f : X → List ℕ) (xs : List X) (i : ℕ) → Put b m (flat_map f (take i xs)) b' m' → length xs ≤ i → Put b m (flat_map f xs) b' m'
-puts_all {b = b} {b' = b'} {m = m} {m' = m'} f xs i p h = subst (λ l. Put b m (flat_map f l) b' m') (take_all i xs h) p
 
 -- where all elements have room, the next one has
 pub next_fits : {X : Type 0} {b b₁ : List ℕ} {m m₁ : Marks} (f : X → List ℕ) (xs : List X) (i : ℕ) (e : X) → e ≡ get_or xs i e → i < length xs → Put b m (flat_map f (take i xs)) b₁ m₁ → m.mark + length (flat_map f xs) ≤ length b → m₁.mark + length (f e) ≤ length b₁

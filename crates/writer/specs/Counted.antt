@@ -1,6 +1,6 @@
 -- What an Ack and a Nack count. Assumes nothing.
 use Rattle.std.specs.Prelude.{◌≡◌, ℕ, Bool, ◌&&◌, List, map, length, nat_lt}
-use Rattle.std.specs.List.{flat_map, list_all}
+use Rattle.std.specs.List.{flat_map}
 use Rattle.std.proofs.Common.{refl, ap, ◌∙◌}
 use Rattle.std.proofs.lemmas.List.{length-map}
 use Rattle.std.proofs.lemmas.List.Folds.{flat_map-map, list_all-map}
@@ -8,9 +8,9 @@ use Rattle.datagram.specs.declared.structure.nack.Entry.{Entry}
 use Rattle.datagram.specs.Layout.{octets24, counted_octets}
 use Rattle.datagram.specs.Structures.{Content, ack, nack, type_of}
 use Rattle.datagram.specs.Views.{entry_says}
-use Rattle.writer.specs.declared.kind.Kind.{Kind}
-use Rattle.writer.specs.declared.kind.Kind.TheVariants as kind
-use Rattle.writer.specs.Kinds.{number_of}
+use Rattle.datagram.specs.declared.kind.Kind.{Kind}
+use Rattle.datagram.specs.declared.kind.Kind.TheVariants as kind
+use Rattle.datagram.specs.Kinds.{number_of}
 use Rattle.writer.specs.Pieces.{said_octets, said_within}
 use Rattle.writer.specs.Values.{octets_of_entry, entry_within, every, is_number, data_of, content_within}
 

@@ -3,7 +3,6 @@ pub mod Bodies
 pub mod Octets
 pub mod Refusals
 pub mod Drafts
-pub mod Kinds
 pub mod Pieces
 pub mod Counted
 pub mod Runs

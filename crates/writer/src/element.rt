@@ -7,13 +7,12 @@ ghost use Rattle.datagram.specs.Views.{entry_says};
 ghost use Rattle.writer.specs.Counted.{Counts, ack_counts, nack_counts};
 ghost use Rattle.writer.specs.Pieces.{Put, Measures, said_octets, said_within};
 ghost use Rattle.writer.specs.Values.{every, is_number};
-ghost use Rattle.writer.specs.declared.kind.Kind.{Kind};
+ghost use Rattle.datagram.specs.declared.kind.Kind.{Kind};
 
-use crate::kind::Kind;
 use crate::marks::{Begun, LARGEST_NUMBER};
 use crate::pieces::{entry_header, number_octets};
-use crate::size::{MAXIMUM, capped};
-use datagram::Entry;
+use crate::size::capped;
+use datagram::{Entry, Kind, MAXIMUM};
 
 // The count has seven bits.
 const MOST_COUNTED: usize = 127;
@@ -105,11 +104,7 @@ impl Element for Entry<'_> {
     }
 
     fn put(&self, payload: &mut Begun) {
-        payload.put(&entry_header(
-            self.number,
-            self.reason,
-            self.data.len() as u8,
-        ));
+        payload.put(&entry_header(self.number, self.reason, self.data.len() as u8));
         payload.put(self.data);
     }
 }
@@ -132,8 +127,7 @@ pub(crate) fn counted_size<E: Element>(elements: &[E]) -> usize
 pub(crate) fn counted_within<E: Element>(elements: &[E]) -> bool
     ensures { result ≡ (nat_lt (length elements.now) 128 && every E.within elements.now) }
 {
-    elements.len() <= MOST_COUNTED
-        && elements.iter().all(|element| element.is_within())
+    elements.len() <= MOST_COUNTED && elements.iter().all(|element| element.is_within())
 }
 
 pub(crate) fn put_all<E: Element>(payload: &mut Begun, elements: &[E])

@@ -3,7 +3,6 @@
 
 mod element;
 mod example;
-mod kind;
 mod marks;
 mod payload;
 mod pieces;

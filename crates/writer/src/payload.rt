@@ -3,14 +3,14 @@ ghost use Rattle.std.specs.Prelude.{◌≡◌, ◌+◌, ◌<◌, min, true, ◌+
 ghost use Rattle.std.specs.List.{flat_map};
 ghost use Rattle.datagram.specs.Layout.{payload_octets, counted_octets};
 ghost use Rattle.writer.specs.Drafts.{fits};
-ghost use Rattle.writer.specs.Kinds.{number_of};
+ghost use Rattle.datagram.specs.Kinds.{number_of};
 ghost use Rattle.writer.specs.Pieces.{Grows};
 ghost use Rattle.writer.specs.Values.{every};
 
 use crate::element::{Element, put_all};
-use crate::kind::Kind;
 use crate::marks::{Begun, Marks};
 use crate::pieces::payload_header;
+use datagram::Kind;
 
 // As methods of the writer these two got no proof: a guard that is made within a call cannot borrow through the call's own `&mut`
 // from the writer's slice and its marks at once. So they take both.

@@ -1,9 +1,9 @@
 // The parts of a datagram that have a fixed size.
 ghost use Rattle.std.specs.Prelude.{◌≡◌, ◌+◌, ◌*◌, ◌^◌, ◌<◌, [], ◌∷◌, ◌++◌};
 ghost use Rattle.datagram.specs.Layout.{octets16, octets24, flag, header_octets};
-ghost use Rattle.writer.specs.Kinds.{number_of};
+ghost use Rattle.datagram.specs.Kinds.{number_of};
 
-use crate::kind::Kind;
+use datagram::Kind;
 
 // A number has 24 bits.
 pub(crate) fn number_octets(number: u32) -> [u8; 3]

@@ -3,8 +3,7 @@ ghost use Rattle.std.specs.Prelude.{◌≡◌, ◌+◌, min, nat_lt};
 ghost use Rattle.writer.specs.Pieces.{Measures};
 ghost use Rattle.writer.specs.Values.{is_field16};
 
-// A datagram has at most so many octets.
-pub const MAXIMUM: usize = 1024;
+use datagram::MAXIMUM;
 
 // More than any datagram holds: a size is counted no further.
 const OVER: usize = MAXIMUM + 1;

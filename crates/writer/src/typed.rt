@@ -1,10 +1,9 @@
 // Data that is given whole, with the kind that it is said to have.
 ghost use Rattle.std.specs.Prelude.{◌≡◌};
 ghost use Rattle.writer.specs.Drafts.{reserved_clear, well_formed};
-ghost use Rattle.writer.specs.Kinds.{number_of};
+ghost use Rattle.datagram.specs.Kinds.{number_of};
 
-use crate::kind::Kind;
-use datagram::Content;
+use datagram::{Content, Kind};
 
 // The count of an Ack or a Nack has a reserved bit beside it, which is written as zero.
 fn is_reserved_clear(kind: Kind, data: &[u8]) -> bool

@@ -9,14 +9,13 @@ ghost use Rattle.writer.specs.Runs.{ReadsAs, WhatIsClosedReads};
 ghost use Rattle.writer.specs.Values.{cookie_octets, plainly};
 
 use crate::element::{Element, counted_size, counted_within};
-use crate::kind::Kind;
 use crate::marks::Marks;
 use crate::payload::{write_counted, write_pieces};
 use crate::pieces::{alive_header, header};
 use crate::refusal::{Found, Refusal};
-use crate::size::{MAXIMUM, alive_size, cookie_within, non_standard_size, oid_within};
+use crate::size::{alive_size, cookie_within, non_standard_size, oid_within};
 use crate::typed::is_well_formed;
-use datagram::{Alive, Entry, NonStandard};
+use datagram::{Alive, Entry, Kind, MAXIMUM, NonStandard};
 
 fn octets_of(cookie: Option<&[u8]>) -> &[u8]
     ensures { result.now ≡ cookie_octets (option_map (λ c. c.now) cookie.entry) }

@@ -1,6 +1,6 @@
 use Rattle.std.proofs.Common.{◌*◌, ◌∷◌, ◌++◌, ap, ◌∙◌, one-add, rules}
 use Rattle.datagram.specs.Layout.{octets16}
-use Rattle.writer.specs.Kinds.{number_of, deserving_kind}
+use Rattle.datagram.specs.Kinds.{number_of, deserving_kind}
 use Rattle.writer.proofs.Puts.{two_puts, payload_put, grows_by}
 use Rattle.writer.proofs.payload.write_counted.Goals as goal
 

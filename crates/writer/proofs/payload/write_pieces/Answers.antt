@@ -1,5 +1,5 @@
 use Rattle.std.proofs.Common.{refl, rules}
-use Rattle.writer.specs.Kinds.{number_of}
+use Rattle.datagram.specs.Kinds.{number_of}
 use Rattle.writer.proofs.Puts.{payload_puts, grows_by}
 use Rattle.writer.proofs.payload.write_pieces.Goals as goal
 
