@@ -1,5 +1,6 @@
 -- What a call answers, by what was found against it. Assumes nothing.
-use Rattle.std.proofs.Common.{◌≡◌, ℕ, zero, suc, ◌+◌, ◌-◌, ◌<◌, ◌≤◌, min, Bool, true, false, not, ◌&&◌, ltb, leb, List, [], ◌∷◌, length, take, drop, set, Some, None, Ok, Err, Option, Result, sym, refl, ap, ◌∙◌, arith}
+use Rattle.std.proofs.Common.{◌≡◌, ℕ, ◌+◌, ◌-◌, ◌<◌, ◌≤◌, min, Bool, true, false, not, ◌&&◌, ltb, leb, List, length, take, drop, set, Some, None, Ok, Err, Option, Result, sym, refl, ap, ◌∙◌, arith}
+use Rattle.std.proofs.Math.Seq.{take-set-lt}
 use Rattle.std.proofs.lemmas.List.{length-set, drop-set-lt}
 use Rattle.std.proofs.lemmas.Bool.{leb-true, leb-false, lt-leb, lt-ltb, and_parts}
 use Rattle.std.specs.List.{flat_map}
@@ -125,12 +126,6 @@ module _ {X : Type 0} {k : Kind} {f : X → List ℕ} {ok : X → Bool} {es : Li
       item_added w w' added (took (against_item w added) tt u (sym counted_asked ∙ was)).0 (rw (counts.kind, counts.«data») grows)
 
 -- COUNT is written
-take_set_both : (n : ℕ) (l : List ℕ) (i v : ℕ) → take n (set l i v) ≡ set (take n l) i v
-take_set_both zero l i v = refl
-take_set_both (suc n) [] i v = refl
-take_set_both (suc n) (x ∷ l) zero v = refl
-take_set_both (suc n) (x ∷ l) (suc i) v = ap (λ k. x ∷ k) (take_set_both n l i v)
-
 -- there is a header where a datagram is closed
 closing_headed : (m : Marks) (room : ℕ) → against_closing m room ≡ None → 5 ≤ m.mark
 closing_headed m room e =
@@ -147,7 +142,7 @@ closed_so w w' k n none marks count buffer is =
     let m = w.marks in
     let mark : w'.marks.mark ≡ m.mark = ap (λ x. x.mark) marks in
     let long = closing_headed m _ none in
-    let made : draft_of (set b 4 (k - 1)) (closed_marks m) ≡ record { marks = closed_marks m; filled = set (take m.mark b) 4 (m.count - 1); room = min 1024 (length b) } = rw (count, take_set_both m.mark b 4 (m.count - 1), length-set b 4 (m.count - 1)) refl in
+    let made : draft_of (set b 4 (k - 1)) (closed_marks m) ≡ record { marks = closed_marks m; filled = set (take m.mark b) 4 (m.count - 1); room = min 1024 (length b) } = rw (count, take-set-lt m.mark b 4 (m.count - 1) (omega arith), length-set b 4 (m.count - 1)) refl in
     let left : draft_says w' ≡ draft_of (set b 4 (k - 1)) (closed_marks m) = ap (λ x. draft_of x w'.marks) buffer ∙ ap (draft_of (set b 4 (k - 1))) marks in
     let kept : drop m.mark (set b 4 (k - 1)) ≡ drop m.mark b = drop-set-lt m.mark b 4 (k - 1) (omega arith) in
     let past : drop w'.marks.mark w'.buffer.now ≡ drop w'.marks.mark b = ap (λ j. drop j w'.buffer.now) mark ∙ ap (drop m.mark) buffer ∙ kept ∙ ap (λ j. drop j b) (sym mark) in

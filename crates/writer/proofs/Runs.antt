@@ -1,5 +1,6 @@
 -- What is written call by call is the datagram of the payloads that were accepted. Assumes nothing.
 use Rattle.std.proofs.Common.{◌≡◌, ℕ, ◌+◌, ◌-◌, ◌*◌, ◌<◌, ◌≤◌, min, Bool, true, false, cond, not, ◌&&◌, ◌||◌, eqb, ltb, leb, List, [], ◌∷◌, ◌++◌, map, length, take, drop, set, None, Ok, Err, Result, sym, refl, ap, ◌∙◌, subst, arith}
+use Rattle.std.proofs.Math.Bool.{or-false, or_assoc}
 use Rattle.std.proofs.lemmas.List.{append_assoc, append-nil, length-append, length_push, flat_map_more, length-map, drop-drop, take-append-drop}
 use Rattle.std.proofs.lemmas.Bool.{leb-true, le-leb, ltb-true, lt-ltb, eqb-true, and_parts, and_from}
 use Rattle.datagram.specs.declared.fault.Fault.{Fault}
@@ -84,19 +85,11 @@ worth (nack es) y e = refl
 worth (non_standard s) y e = refl
 worth (unsupported t x) y e = neither (eqb t 4) (eqb t 5) (not_ack t x y e) (not_nack t x y e)
 
-or-false : (b : Bool) → (b || false) ≡ b
-or-false true = refl
-or-false false = refl
-
-or_assoc : (a b c : Bool) → (a || (b || c)) ≡ ((a || b) || c)
-or_assoc true b c = refl
-or_assoc false b c = refl
-
 worth_push : (ps : List Part) (p : Part) (at : ℕ) → some_deserves (placed_from at (ps ++ p ∷ [])) ≡ (some_deserves (placed_from at ps) || deserving p.content)
 worth_push [] p at = or-false (deserving p.content)
 worth_push (q ∷ ps) p at =
     let to = at + 5 + length q.octets in
-    ap (λ b. deserving q.content || b) (worth_push ps p to) ∙ or_assoc (deserving q.content) (some_deserves (placed_from to ps)) (deserving p.content)
+    ap (λ b. deserving q.content || b) (worth_push ps p to) ∙ sym (or_assoc (deserving q.content) (some_deserves (placed_from to ps)) (deserving p.content))
 
 all_push : (ps : List Part) (p : Part) → AllOf Readable ps → Readable p → AllOf Readable (ps ++ p ∷ [])
 all_push [] p all h = (h, tt)

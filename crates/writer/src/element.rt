@@ -20,7 +20,7 @@ const MOST_COUNTED: usize = 127;
 // The length of an entry's data has eight bits.
 const LONGEST_DATA: usize = 255;
 
-// An element has octets, its values lie within their fields or not, and a list of elements is the content of a payload.
+// An element is written as octets, its values lie within their fields or not, and a list of elements is the content of a payload.
 pub(crate) trait Element {
     ghost its_kind: { Kind };
 
@@ -109,7 +109,7 @@ impl Element for Entry<'_> {
     }
 }
 
-// How many octets of data a payload of these elements has, its count among them.
+// How many octets of data a payload of these elements has, its count among them. Past what a datagram holds they are counted no further.
 pub(crate) fn counted_size<E: Element>(elements: &[E]) -> usize
     ensures { Measures result (1 + length (flat_map E.octets elements.now)) }
 {

@@ -7,7 +7,7 @@ ghost use Rattle.writer.specs.Refusals.{refused_at};
 use crate::refusal::{Found, Layer, Refusal};
 
 // The header of a datagram, and that of a payload.
-const HEADER: usize = 5;
+pub const HEADER: usize = 5;
 
 // More payloads have no room, even with no data. The room says so too; asked of the count as well, no marks can overflow it.
 const MOST_PAYLOADS: u8 = 203;
@@ -157,7 +157,7 @@ impl Marks {
     }
 }
 
-// A payload that was begun: its end puts the marks back, unless it was finished.
+// A payload that was begun: what is put goes behind the mark, and its end puts the marks back, unless it was finished.
 pub struct Begun<'m> {
     buffer: &'m mut [u8],
     marks: &'m mut Marks,

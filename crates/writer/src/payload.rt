@@ -12,8 +12,8 @@ use crate::marks::{Begun, Marks};
 use crate::pieces::payload_header;
 use datagram::Kind;
 
-// As methods of the writer these two got no proof: a guard that is made within a call cannot borrow through the call's own `&mut`
-// from the writer's slice and its marks at once. So they take both.
+// These two take the writer's buffer and marks side by side. As methods of the writer they got no proof: the check does not cover
+// a guard that borrows a slice through the `&mut` of the struct that holds it.
 
 // A payload whose data is three pieces.
 pub(crate) fn write_pieces(

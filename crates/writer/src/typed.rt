@@ -22,8 +22,5 @@ fn is_reserved_clear(kind: Kind, data: &[u8]) -> bool
 pub(crate) fn is_well_formed(kind: Kind, data: &[u8]) -> bool
     ensures { result ≡ well_formed (number_of kind) «data».now }
 {
-    match Content::read(kind.number(), data, 0) {
-        Ok(_) => is_reserved_clear(kind, data),
-        Err(_) => false,
-    }
+    Content::read(kind.number(), data, 0).is_ok() && is_reserved_clear(kind, data)
 }

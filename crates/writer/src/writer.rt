@@ -9,7 +9,7 @@ ghost use Rattle.writer.specs.Runs.{ReadsAs, WhatIsClosedReads};
 ghost use Rattle.writer.specs.Values.{cookie_octets, plainly};
 
 use crate::element::{Element, counted_size, counted_within};
-use crate::marks::Marks;
+use crate::marks::{HEADER, Marks};
 use crate::payload::{write_counted, write_pieces};
 use crate::pieces::{alive_header, header};
 use crate::refusal::{Found, Refusal};
@@ -27,6 +27,7 @@ fn octets_of(cookie: Option<&[u8]>) -> &[u8]
 }
 
 // One datagram in the making: open it, add payloads, close it. A call that is refused changes nothing.
+// The buffer is the caller's, with its mark beside it, since nothing here is on a heap.
 #[derive(Drop)]
 pub struct Writer<'b> {
     buffer: &'b mut [u8],
@@ -65,7 +66,7 @@ impl<'b> Writer<'b> {
     {
         let room = self.room();
         self.marks.check_opening(room, number)?;
-        self.buffer[0..5].copy_from_slice(&header(number, wants_ack));
+        self.buffer[0..HEADER].copy_from_slice(&header(number, wants_ack));
         self.marks = Marks::opened(wants_ack);
         Ok(())
     }
