@@ -6,10 +6,11 @@ use Rattle.std.proofs.lemmas.List.{length-append, append_assoc, drop-drop, take_
 use Rattle.datagram.specs.Layout.{octets16, payload_octets}
 use Rattle.datagram.specs.declared.kind.Kind.{Kind}
 use Rattle.datagram.specs.declared.kind.Kind.TheVariants.{CallMessage, IAmAlive, Ack, Nack, NonStandard}
+use Rattle.writer.specs.declared.marks.Begun.{Begun}
 use Rattle.writer.specs.declared.marks.Marks.{Marks}
 use Rattle.writer.specs.Drafts.{draft_of, deserving_type, moved_by, counted, grown}
 use Rattle.datagram.specs.Kinds.{number_of, deserving_kind}
-use Rattle.writer.specs.Pieces.{Put, Grows}
+use Rattle.writer.specs.Pieces.{Put, Puts, Grows}
 
 abbrev moved_to : Marks → ℕ → Marks
 moved_to m k = record { mark = k; count = m.count; asked = m.asked; deserved = m.deserved; closed = m.closed }
@@ -28,7 +29,7 @@ two_puts {b} {x} {b₁} {y} {b₂} {m} {m₁} {m₂} p q =
     }
 
 -- a piece whose octets are known by another name, and one behind it
-pub headed_put : {b h k b₁ x b₂ : List ℕ} {m m₁ m₂ : Marks} → h ≡ k → Put b m h b₁ m₁ → Put b₁ m₁ x b₂ m₂ → Put b m (k ++ x) b₂ m₂
+headed_put : {b h k b₁ x b₂ : List ℕ} {m m₁ m₂ : Marks} → h ≡ k → Put b m h b₁ m₁ → Put b₁ m₁ x b₂ m₂ → Put b m (k ++ x) b₂ m₂
 headed_put {b} {x = x} {b₂ = b₂} {m = m} {m₂ = m₂} e p q = subst (λ l. Put b m (l ++ x) b₂ m₂) e (two_puts p q)
 
 -- the header of a payload, and then its data
@@ -60,10 +61,20 @@ grows_by {b} {b₀} {x} {b₁} {b'} {m} {m₀} {m₁} {m'} k w over start p left
     }
 
 -- the octets of each element, in order
-pub puts_more : {X : Type 0} {b b₁ b₂ : List ℕ} {m m₁ m₂ : Marks} (f : X → List ℕ) (xs : List X) (i : ℕ) (e : X) → e ≡ get_or xs i e → i < length xs → Put b m (flat_map f (take i xs)) b₁ m₁ → Put b₁ m₁ (f e) b₂ m₂ → Put b m (flat_map f (take (i + 1) xs)) b₂ m₂
+puts_more : {X : Type 0} {b b₁ b₂ : List ℕ} {m m₁ m₂ : Marks} (f : X → List ℕ) (xs : List X) (i : ℕ) (e : X) → e ≡ get_or xs i e → i < length xs → Put b m (flat_map f (take i xs)) b₁ m₁ → Put b₁ m₁ (f e) b₂ m₂ → Put b m (flat_map f (take (i + 1) xs)) b₂ m₂
 puts_more {b = b} {b₂ = b₂} {m = m} {m₂ = m₂} f xs i e is h p q =
     let more : take i xs ++ e ∷ [] ≡ take (i + 1) xs = ap (λ x. take i xs ++ x ∷ []) is ∙ sym (take_more xs i e h) in
     subst (λ l. Put b m l b₂ m₂) (flat_map_more f [] (take i xs) e ∙ ap (flat_map f) more) (two_puts p q)
+
+-- the same of the guard
+puts_both : {x y z : List ℕ} {g g₁ g₂ : Begun} → Puts g x g₁ → Puts g₁ y g₂ → Put g.buffer.now g.marks.now z g₂.buffer.now g₂.marks.now → Puts g z g₂
+puts_both p q put = record { same_buffer = q.same_buffer ∙ p.same_buffer; same_marks = q.same_marks ∙ p.same_marks; put = put }
+
+pub guard_puts_headed : {h k x : List ℕ} {g g₁ g₂ : Begun} → h ≡ k → Puts g h g₁ → Puts g₁ x g₂ → Puts g (k ++ x) g₂
+guard_puts_headed e p q = puts_both p q (headed_put e p.put q.put)
+
+pub guard_puts_more : {X : Type 0} {g g₁ g₂ : Begun} (f : X → List ℕ) (xs : List X) (i : ℕ) (e : X) → e ≡ get_or xs i e → i < length xs → Puts g (flat_map f (take i xs)) g₁ → Puts g₁ (f e) g₂ → Puts g (flat_map f (take (i + 1) xs)) g₂
+guard_puts_more f xs i e is h p q = puts_both p q (puts_more f xs i e is h p.put q.put)
 
 -- where all elements have room, the next one has
 pub next_fits : {X : Type 0} {b b₁ : List ℕ} {m m₁ : Marks} (f : X → List ℕ) (xs : List X) (i : ℕ) (e : X) → e ≡ get_or xs i e → i < length xs → Put b m (flat_map f (take i xs)) b₁ m₁ → m.mark + length (flat_map f xs) ≤ length b → m₁.mark + length (f e) ≤ length b₁

@@ -2,6 +2,7 @@
 use Rattle.std.specs.Prelude.{◌≡◌, ℕ, ◌+◌, min, Bool, List, ◌++◌, length, take, drop, None, Option}
 use Rattle.datagram.specs.declared.structure.nack.Entry.{Entry}
 use Rattle.datagram.specs.Views.{entry_says}
+use Rattle.writer.specs.declared.marks.Begun.{Begun}
 use Rattle.writer.specs.declared.marks.Marks.{Marks}
 use Rattle.writer.specs.declared.refusal.Found.TheVariants.{NoRoom, OutsideField}
 use Rattle.writer.specs.declared.refusal.Refusal.{Refusal}
@@ -15,6 +16,12 @@ pub record Put (b : List ℕ) (m : Marks) (x b' : List ℕ) (m' : Marks) : Type 
   pub fills : take (m.mark + length x) b' ≡ take m.mark b ++ x
   pub rest : drop (m.mark + length x) b' ≡ drop (m.mark + length x) b
   pub long : length b' ≡ length b
+
+-- octets put by the guard of a payload, which stays over the same buffer and marks
+pub record Puts (g : Begun) (x : List ℕ) (g' : Begun) : Type 0 where
+  pub same_buffer : g'.buffer.ghost_name ≡ g.buffer.ghost_name
+  pub same_marks : g'.marks.ghost_name ≡ g.marks.ghost_name
+  pub put : Put g.buffer.now g.marks.now x g'.buffer.now g'.marks.now
 
 -- a size that is exact wherever it fits a datagram
 abbrev pub Measures : ℕ → ℕ → Type 0

@@ -5,7 +5,7 @@ ghost use Rattle.datagram.specs.Layout.{octets24};
 ghost use Rattle.datagram.specs.Structures.{Content, ack, nack};
 ghost use Rattle.datagram.specs.Views.{entry_says};
 ghost use Rattle.writer.specs.Counted.{Counts, ack_counts, nack_counts};
-ghost use Rattle.writer.specs.Pieces.{Put, Measures, said_octets, said_within};
+ghost use Rattle.writer.specs.Pieces.{Puts, Measures, said_octets, said_within};
 ghost use Rattle.writer.specs.Values.{every, is_number};
 ghost use Rattle.datagram.specs.declared.kind.Kind.{Kind};
 
@@ -43,9 +43,7 @@ pub(crate) trait Element {
     fn put(&self, payload: &mut Begun)
         requires inside { within self.now ≡ true }
         requires room { payload.old.marks.now.mark + length (octets self.now) ≤ length payload.old.buffer.now }
-        ensures same_buffer { payload.new.buffer.ghost_name ≡ payload.old.buffer.ghost_name }
-        ensures same_marks { payload.new.marks.ghost_name ≡ payload.old.marks.ghost_name }
-        ensures puts { Put payload.old.buffer.now payload.old.marks.now (octets self.now) payload.new.buffer.now payload.new.marks.now };
+        ensures { Puts payload.old (octets self.now) payload.new };
 
     ghost counts: { (es : List Self) → Counts its_kind octets within es (content es) };
 }
@@ -133,9 +131,7 @@ pub(crate) fn counted_within<E: Element>(elements: &[E]) -> bool
 pub(crate) fn put_all<E: Element>(payload: &mut Begun, elements: &[E])
     requires inside { every E.within elements.now ≡ true }
     requires room { payload.old.marks.now.mark + length (flat_map E.octets elements.now) ≤ length payload.old.buffer.now }
-    ensures same_buffer { payload.new.buffer.ghost_name ≡ payload.old.buffer.ghost_name }
-    ensures same_marks { payload.new.marks.ghost_name ≡ payload.old.marks.ghost_name }
-    ensures puts { Put payload.old.buffer.now payload.old.marks.now (flat_map E.octets elements.now) payload.new.buffer.now payload.new.marks.now }
+    ensures { Puts payload.old (flat_map E.octets elements.now) payload.new }
 {
     for element in elements {
         element.put(payload);

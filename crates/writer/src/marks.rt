@@ -1,7 +1,7 @@
 // How far a datagram is written, and the guard of a payload that was begun.
 ghost use Rattle.std.specs.Prelude.{◌≡◌, ◌+◌, ◌<◌, ◌≤◌, length, unwrap_or};
 ghost use Rattle.writer.specs.Drafts.{fresh, first_of, unless, opened_marks, closed_marks, is_open, fits, closable, counted, against_opening, against_closing};
-ghost use Rattle.writer.specs.Pieces.{Put, against_data};
+ghost use Rattle.writer.specs.Pieces.{Puts, against_data};
 ghost use Rattle.writer.specs.Refusals.{refused_at};
 
 use crate::refusal::{Found, Layer, Refusal};
@@ -182,9 +182,7 @@ impl<'m> Begun<'m> {
     // Writes `new` at the mark, and moves the mark past it.
     pub(crate) fn put(&mut self, new: &[u8])
         requires { self.old.marks.now.mark + length new.now ≤ length self.old.buffer.now }
-        ensures same_buffer { self.new.buffer.ghost_name ≡ self.old.buffer.ghost_name }
-        ensures same_marks { self.new.marks.ghost_name ≡ self.old.marks.ghost_name }
-        ensures puts { Put self.old.buffer.now self.old.marks.now new.now self.new.buffer.now self.new.marks.now }
+        ensures { Puts self.old new.now self.new }
     {
         let start = self.marks.mark;
         let end = start + new.len();

@@ -1,5 +1,5 @@
-use Rattle.writer.proofs.Puts.{headed_put}
+use Rattle.writer.proofs.Puts.{guard_puts_headed}
 use Rattle.writer.proofs.element.EntryElement.put.Goals as goal
 
-pub returns-clause-puts : goal.returns-clause-puts
-returns-clause-puts c = headed_put c.entry_header.ensures c.put.ensures.puts c.put-2.ensures.puts
+pub returns : goal.returns
+returns c = guard_puts_headed c.entry_header.ensures c.put.ensures c.put-2.ensures
