@@ -10,7 +10,7 @@ ghost use Rattle.writer.specs.Values.{every, is_number};
 ghost use Rattle.datagram.specs.declared.kind.Kind.{Kind};
 
 use crate::marks::{Begun, LARGEST_NUMBER};
-use crate::pieces::{entry_header, number_octets};
+use crate::pieces::number_octets;
 use crate::size::capped;
 use datagram::{Entry, Kind, MAXIMUM};
 
@@ -19,6 +19,9 @@ const MOST_COUNTED: usize = 127;
 
 // The length of an entry's data has eight bits.
 const LONGEST_DATA: usize = 255;
+
+// Number, reason and length of an entry.
+const ENTRY_HEADER: usize = 6;
 
 // An element is written as octets, its values lie within their fields or not, and a list of elements is the content of a payload.
 pub(crate) trait Element {
@@ -94,7 +97,7 @@ impl Element for Entry<'_> {
     }
 
     fn size(&self) -> usize {
-        6 + capped(self.data.len())
+        ENTRY_HEADER + capped(self.data.len())
     }
 
     fn is_within(&self) -> bool {
@@ -102,7 +105,9 @@ impl Element for Entry<'_> {
     }
 
     fn put(&self, payload: &mut Begun) {
-        payload.put(&entry_header(self.number, self.reason, self.data.len() as u8));
+        payload.put(&number_octets(self.number));
+        payload.put(&self.reason.to_be_bytes());
+        payload.put(&[self.data.len() as u8]);
         payload.put(self.data);
     }
 }

@@ -1,5 +1,5 @@
 // The parts of a datagram that have a fixed size.
-ghost use Rattle.std.specs.Prelude.{◌≡◌, ◌+◌, ◌*◌, ◌^◌, ◌<◌, [], ◌∷◌, ◌++◌};
+ghost use Rattle.std.specs.Prelude.{◌≡◌, ◌+◌, ◌*◌, ◌^◌, ◌<◌, ◌∷◌, ◌++◌};
 ghost use Rattle.datagram.specs.Layout.{octets16, octets24, flag, header_octets};
 ghost use Rattle.datagram.specs.Kinds.{number_of};
 
@@ -39,14 +39,4 @@ pub(crate) fn alive_header(validity: u16, cookie: u16, wants_reply: bool) -> [u8
     let [v1, v0] = validity.to_be_bytes();
     let [c1, c0] = (2 * cookie + wants_reply as u16).to_be_bytes();
     [v1, v0, c1, c0]
-}
-
-// Number, reason and length of an entry of a Nack.
-pub(crate) fn entry_header(number: u32, reason: u16, octets: u8) -> [u8; 6]
-    requires { number < 2 ^ 24 }
-    ensures { result ≡ octets24 number ++ (octets16 reason ++ (octets ∷ [])) }
-{
-    let [n2, n1, n0] = number_octets(number);
-    let [r1, r0] = reason.to_be_bytes();
-    [n2, n1, n0, r1, r0, octets]
 }
