@@ -68,7 +68,7 @@ puts_more {b = b} {b₂ = b₂} {m = m} {m₂ = m₂} f xs i e is h p q =
 
 -- the same of the guard
 puts_both : {x y z : List ℕ} {g g₁ g₂ : Begun} → Puts g x g₁ → Puts g₁ y g₂ → Put g.buffer.now g.marks.now z g₂.buffer.now g₂.marks.now → Puts g z g₂
-puts_both p q put = record { same_buffer = q.same_buffer ∙ p.same_buffer; same_marks = q.same_marks ∙ p.same_marks; put = put }
+puts_both p q put = record { same_buffer = q.same_buffer ∙ p.same_buffer; same_marks = q.same_marks ∙ p.same_marks; same_before = q.same_before ∙ p.same_before; put = put }
 
 pub guard_puts_headed : {h k x : List ℕ} {g g₁ g₂ : Begun} → h ≡ k → Puts g h g₁ → Puts g₁ x g₂ → Puts g (k ++ x) g₂
 guard_puts_headed e p q = puts_both p q (headed_put e p.put q.put)

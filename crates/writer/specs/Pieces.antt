@@ -17,10 +17,11 @@ pub record Put (b : List ℕ) (m : Marks) (x b' : List ℕ) (m' : Marks) : Type 
   pub rest : drop (m.mark + length x) b' ≡ drop (m.mark + length x) b
   pub long : length b' ≡ length b
 
--- octets put by the guard of a payload, which stays over the same buffer and marks
+-- octets put by the guard of a payload, which stays over the same buffer and marks, and has the same marks to put back
 pub record Puts (g : Begun) (x : List ℕ) (g' : Begun) : Type 0 where
   pub same_buffer : g'.buffer.ghost_name ≡ g.buffer.ghost_name
   pub same_marks : g'.marks.ghost_name ≡ g.marks.ghost_name
+  pub same_before : g'.before ≡ g.before
   pub put : Put g.buffer.now g.marks.now x g'.buffer.now g'.marks.now
 
 -- a size that is exact wherever it fits a datagram
