@@ -1,20 +1,24 @@
 -- What a call answers, by what was found against it. Assumes nothing.
-use Rattle.std.proofs.Common.{◌≡◌, ℕ, zero, suc, ◌+◌, ◌-◌, ◌%◌, ◌<◌, ◌≤◌, min, Bool, true, false, not, ◌&&◌, ◌||◌, eqb, ltb, leb, List, [], ◌∷◌, ◌++◌, map, length, take, drop, set, Some, None, Ok, Err, Option, sym, refl, ap, ◌∙◌, arith}
-use Rattle.std.proofs.lemmas.List.{length-map, length-set, drop-set-lt}
+use Rattle.std.proofs.Common.{◌≡◌, ℕ, ◌+◌, ◌-◌, ◌<◌, ◌≤◌, min, Bool, true, false, not, ◌&&◌, ltb, leb, List, length, take, drop, set, Some, None, Ok, Err, Option, Result, sym, refl, ap, ◌∙◌, arith}
+use Rattle.std.proofs.Math.Seq.{take-set-lt}
+use Rattle.std.proofs.lemmas.List.{length-set, drop-set-lt}
 use Rattle.std.proofs.lemmas.Bool.{leb-true, leb-false, lt-leb, lt-ltb, and_parts}
 use Rattle.std.specs.List.{flat_map}
-use Rattle.datagram.specs.declared.structure.nack.Entry.{Entry}
-use Rattle.datagram.specs.Layout.{odd, octet, payload_octets, counted_octets}
-use Rattle.datagram.specs.Structures.{nack, type_of}
-use Rattle.datagram.specs.Views.{entry_says}
+use Rattle.datagram.specs.Layout.{payload_octets, counted_octets}
+use Rattle.datagram.proofs.Passing.{clash}
+use Rattle.datagram.specs.Structures.{Content, type_of}
+use Rattle.datagram.specs.declared.kind.Kind.{Kind}
+use Rattle.datagram.specs.declared.kind.Kind.TheVariants.{CallMessage, IAmAlive, Ack, Nack, NonStandard}
 use Rattle.writer.specs.declared.marks.Marks.{Marks}
 use Rattle.writer.specs.declared.refusal.Found.TheVariants.{NoRoom, TypeNotWritten, OutsideField}
 use Rattle.writer.specs.declared.refusal.Refusal.{Refusal}
 use Rattle.writer.specs.declared.writer.Writer.{Writer}
-use Rattle.writer.specs.Drafts.{draft_of, draft_says, first_of, is_open, fits, against_payload, against_closing, deserving_type, reserved_clear, item, add_of, closable, closed_marks, close_of, Does, done, size}
-use Rattle.writer.specs.Pieces.{Measures, Unopposed, Grows, said_octets, said_within}
+use Rattle.writer.specs.Drafts.{draft_of, draft_says, first_of, unless, is_open, fits, against_payload, against_closing, item, add_of, closable, closed_marks, close_of, Does, done, size}
+use Rattle.writer.specs.Counted.{Counts}
+use Rattle.datagram.specs.Kinds.{number_of}
+use Rattle.writer.specs.Pieces.{Measures, Grows, against_data}
 use Rattle.writer.specs.Refusals.{refused_at}
-use Rattle.writer.specs.Values.{Item, supported_type, data_of, octets_of_entry, every, entry_within, content_within, within}
+use Rattle.writer.specs.Values.{Item, supported_type, data_of, every, content_within, within}
 
 -- past every question
 pub clear_of : (b : Bool) (f : Refusal) (o : Option Refusal) → first_of b f o ≡ None → (b ≡ true) × (o ≡ None)
@@ -31,18 +35,12 @@ fit_parts m room n e =
     let f = and_parts (ltb m.count 203) (leb (m.mark + 5 + n) room) d.1 in
     leb-true _ _ f.1
 
-pub passes : (m : Marks) (room t n : ℕ) (inside : Bool) → against_payload m room t n inside ≡ None → Unopposed m room t n × (inside ≡ true) × (m.mark + 5 + n ≤ room)
+pub passes : (m : Marks) (room t n : ℕ) (inside : Bool) → against_payload m room t n inside ≡ None → (inside ≡ true) × (m.mark + 5 + n ≤ room)
 passes m room t n inside e =
     let a = clear_of (fits m room n) (refused_at m.mark NoRoom) _ e in
     let b = clear_of (supported_type t) (refused_at m.mark TypeNotWritten) _ a.1 in
     let c = clear_of inside (refused_at m.mark OutsideField) None b.1 in
-    (ap (against_payload m room t n) (sym c.0) ∙ e, c.0, fit_parts m room n a.0)
-
--- data in one piece, behind two empty ones
-pub one_piece : (m : Marks) (room t n : ℕ) (inside : Bool) (o : Option Refusal) → o ≡ against_payload m room t n inside → o ≡ None → Unopposed m room t (0 + (0 + n))
-one_piece m room t n inside o asked none =
-    let same : 0 + (0 + n) ≡ n = omega arith in
-    ap (λ k. against_payload m room t k true) same ∙ (passes m room t n inside (sym asked ∙ none)).0
+    (c.0, fit_parts m room n a.0)
 
 -- a size counts only as far as it may fit
 fits_same : (m : Marks) (room n k : ℕ) → room ≤ 1024 → Measures n k → fits m room n ≡ fits m room k
@@ -78,52 +76,56 @@ item_asked w i n inside o asked crv size is =
     ∙ ap (answer_to m t (fits m room k)) is
     ∙ within_same (fits m room k) m room i small crv refl
 
-pub item_refused : (w : Writer) (i : Item) (o : Option Refusal) (f : Refusal) → o ≡ Some f → o ≡ against_item w i → Does w (add_of (draft_says w) (item i)) done (Err f) w
-item_refused w i o f found same = rw (← same, found) (record { gives = refl; leaves = refl; beyond = refl })
+-- what a check answers
+pub took : {X : Type 0} (o : Option Refusal) (x e : X) → unless o x ≡ Ok e → (o ≡ None) × (x ≡ e)
+took None x e h = (refl, cc)
+took (Some f) x e h = absurd (clash h)
 
-pub item_added : (w w' : Writer) (i : Item) (o : Option Refusal) → o ≡ None → o ≡ against_item w i
+pub refused : {X : Type 0} (o : Option Refusal) (x : X) (f : Refusal) → unless o x ≡ Err f → o ≡ Some f
+refused None x f h = absurd (clash (sym h))
+refused (Some g) x f h = cc
+
+pub item_refused : (w : Writer) (i : Item) (f : Refusal) → against_item w i ≡ Some f → Does w (add_of (draft_says w) (item i)) done (Err f) w
+item_refused w i f found = rw found (record { gives = refl; leaves = refl; beyond = refl })
+
+pub item_added : (w w' : Writer) (i : Item) → against_item w i ≡ None
     → Grows w.buffer.now w.marks (type_of i.content) (payload_octets (type_of i.content) i.crv (data_of i.content)) w'.buffer.now w'.marks → Does w (add_of (draft_says w) (item i)) done (Ok tt) w'
-item_added w w' i o none same g = rw (← same, none) (record { gives = refl; leaves = g.leaves; beyond = g.beyond })
+item_added w w' i none g = rw none (record { gives = refl; leaves = g.leaves; beyond = g.beyond })
 
--- the entries as the code holds them, and as they are said
-joined_said : (es : List Entry) → flat_map octets_of_entry (map entry_says es) ≡ flat_map said_octets es
-joined_said [] = refl
-joined_said (e ∷ es) = ap (λ l. said_octets e ++ l) (joined_said es)
+-- a kind is a type that is written
+supported : (k : Kind) → supported_type (number_of k) ≡ true
+supported CallMessage = refl
+supported IAmAlive = refl
+supported Ack = refl
+supported Nack = refl
+supported NonStandard = refl
 
-every_said : (es : List Entry) → every entry_within (map entry_says es) ≡ every said_within es
-every_said [] = refl
-every_said (e ∷ es) = ap (λ b. said_within e && b) (every_said es)
+-- the same of a payload that counts elements
+module _ {X : Type 0} {k : Kind} {f : X → List ℕ} {ok : X → Bool} {es : List X} {x : Content} (counts : Counts k f ok es x) (w : Writer) (crv n : ℕ) (inside : Bool) (r : Result (Unit {0}) Refusal)
+    (asked : r ≡ unless (against_data w.marks (min 1024 (length w.buffer.now)) n inside) tt) (small : crv < 65536) (size : Measures n (1 + length (flat_map f es))) (is : inside ≡ (ltb (length es) 128 && every ok es)) where
+  added : Item
+  added = record { crv = crv; content = x }
 
-pub nack_data : (es : List Entry) → data_of (nack (map entry_says es)) ≡ counted_octets (length es) (flat_map said_octets es)
-nack_data es = rw (length-map es entry_says, joined_said es) refl
+  counted_asked : r ≡ unless (against_item w added) tt
+  unfolding added
+  counted_asked =
+      let room = min 1024 (length w.buffer.now) in
+      let written : supported_type (type_of x) ≡ true = ap supported_type counts.kind ∙ supported k in
+      let same : against_payload w.marks room (type_of x) n inside ≡ against_data w.marks room n inside = rw written refl in
+      let long : Measures n (length (data_of x)) = omega (arith, size, ap length counts.«data») in
+      asked ∙ ap (λ o. unless o tt) (item_asked w added n inside _ (sym same) small long (is ∙ sym counts.within))
 
-pub nack_within : (es : List Entry) → content_within (nack (map entry_says es)) ≡ (ltb (length es) 128 && every said_within es)
-nack_within es = rw (length-map es entry_says, every_said es) refl
+  pub counted_refused : (e : Refusal) → r ≡ Err e → Does w (add_of (draft_says w) (item (record { crv = crv; content = x }))) done (Err e) w
+  unfolding added
+  counted_refused e was = item_refused w added e (refused (against_item w added) tt e (sym counted_asked ∙ was))
 
--- the reserved bit beside a count
-or_true : (b : Bool) → (b || true) ≡ true
-or_true true = refl
-or_true false = refl
-
-pub clear_empty : (t : ℕ) (x : List ℕ) → length x < 1 → reserved_clear t x ≡ true
-clear_empty t [] h = or_true (deserving_type t)
-clear_empty t (n ∷ x) h = absurd (omega arith)
-
-even_bit : (k : ℕ) → k < 2 → eqb k 0 ≡ not (eqb k 1)
-even_bit zero h = refl
-even_bit (suc zero) h = refl
-even_bit (suc (suc k)) h = absurd (omega arith)
-
-pub clear_bit : (t v : ℕ) (x : List ℕ) → deserving_type t ≡ false → v ≡ octet x 0 → eqb (v % 2) 0 ≡ reserved_clear t x
-clear_bit t v x none is = even_bit (v % 2) (omega arith) ∙ ap (λ k. not (odd k)) is ∙ ap (λ b. b || not (odd (octet x 0))) (sym none)
+  pub counted_added : (w' : Writer) (u : Unit {0}) → r ≡ Ok u → Grows w.buffer.now w.marks (number_of k) (payload_octets (number_of k) crv (counted_octets (length es) (flat_map f es))) w'.buffer.now w'.marks
+      → Does w (add_of (draft_says w) (item (record { crv = crv; content = x }))) done (Ok tt) w'
+  unfolding added
+  counted_added w' u was grows =
+      item_added w w' added (took (against_item w added) tt u (sym counted_asked ∙ was)).0 (rw (counts.kind, counts.«data») grows)
 
 -- COUNT is written
-take_set_both : (n : ℕ) (l : List ℕ) (i v : ℕ) → take n (set l i v) ≡ set (take n l) i v
-take_set_both zero l i v = refl
-take_set_both (suc n) [] i v = refl
-take_set_both (suc n) (x ∷ l) zero v = refl
-take_set_both (suc n) (x ∷ l) (suc i) v = ap (λ k. x ∷ k) (take_set_both n l i v)
-
 -- there is a header where a datagram is closed
 closing_headed : (m : Marks) (room : ℕ) → against_closing m room ≡ None → 5 ≤ m.mark
 closing_headed m room e =
@@ -140,7 +142,7 @@ closed_so w w' k n none marks count buffer is =
     let m = w.marks in
     let mark : w'.marks.mark ≡ m.mark = ap (λ x. x.mark) marks in
     let long = closing_headed m _ none in
-    let made : draft_of (set b 4 (k - 1)) (closed_marks m) ≡ record { marks = closed_marks m; filled = set (take m.mark b) 4 (m.count - 1); room = min 1024 (length b) } = rw (count, take_set_both m.mark b 4 (m.count - 1), length-set b 4 (m.count - 1)) refl in
+    let made : draft_of (set b 4 (k - 1)) (closed_marks m) ≡ record { marks = closed_marks m; filled = set (take m.mark b) 4 (m.count - 1); room = min 1024 (length b) } = rw (count, take-set-lt m.mark b 4 (m.count - 1) (omega arith), length-set b 4 (m.count - 1)) refl in
     let left : draft_says w' ≡ draft_of (set b 4 (k - 1)) (closed_marks m) = ap (λ x. draft_of x w'.marks) buffer ∙ ap (draft_of (set b 4 (k - 1))) marks in
     let kept : drop m.mark (set b 4 (k - 1)) ≡ drop m.mark b = drop-set-lt m.mark b 4 (k - 1) (omega arith) in
     let past : drop w'.marks.mark w'.buffer.now ≡ drop w'.marks.mark b = ap (λ j. drop j w'.buffer.now) mark ∙ ap (drop m.mark) buffer ∙ kept ∙ ap (λ j. drop j b) (sym mark) in

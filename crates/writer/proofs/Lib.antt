@@ -1,6 +1,5 @@
 pub mod Written
 pub mod Trips
-pub mod Elements
 pub mod Puts
 pub mod Answering
 pub mod Runs

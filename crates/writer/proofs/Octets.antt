@@ -1,7 +1,8 @@
 -- What is written within its fields are octets. Assumes nothing.
-use Rattle.std.proofs.Common.{◌≡◌, ℕ, ◌+◌, ◌-◌, ◌*◌, ◌/◌, ◌%◌, ◌<◌, Bool, true, false, not, ltb, List, [], ◌∷◌, ◌++◌, map, length, Some, None, Option, refl, arith}
+use Rattle.std.proofs.Common.{◌≡◌, ℕ, ◌+◌, ◌-◌, ◌*◌, ◌/◌, ◌%◌, ◌<◌, Bool, true, false, not, ltb, List, [], ◌∷◌, ◌++◌, map, length, Some, None, Option, refl, ◌∙◌, arith}
 use Rattle.std.specs.List.{flat_map}
 use Rattle.std.proofs.lemmas.List.{length-map}
+use Rattle.std.proofs.lemmas.List.Folds.{list_all-append}
 use Rattle.std.proofs.lemmas.Bool.{lt-ltb, ltb-true, and_parts, and_from}
 use Rattle.datagram.specs.Layout.{octets16, octets24, flag}
 use Rattle.datagram.specs.Structures.{Entry, Content, call_message, i_am_alive, ack, nack, non_standard, unsupported, type_of}
@@ -18,12 +19,8 @@ nil = record { is = refl }
 one : {l : List ℕ} (n : ℕ) → n < 256 → Octal l → Octal (n ∷ l)
 one {l} n h e = record { is = and_from (is_octet n) (are_octets l) (lt-ltb n 256 h) e.is }
 
-every_both : (k l : List ℕ) → are_octets k ≡ true → are_octets l ≡ true → are_octets (k ++ l) ≡ true
-every_both [] l e f = f
-every_both (n ∷ k) l e f = let p = and_parts (is_octet n) (are_octets k) e in and_from _ _ p.0 (every_both k l p.1 f)
-
 both : {k l : List ℕ} → Octal k → Octal l → Octal (k ++ l)
-both {k} {l} e f = record { is = every_both k l e.is f.is }
+both {k} {l} e f = record { is = list_all-append is_octet k l ∙ and_from _ _ e.is f.is }
 
 two16 : (n : ℕ) → n < 65536 → Octal (octets16 n)
 two16 n h = one (n / 256) (omega arith) (one (n % 256) (omega arith) nil)

@@ -1,5 +1,6 @@
 -- What is written call by call is the datagram of the payloads that were accepted. Assumes nothing.
-use Rattle.std.proofs.Common.{◌≡◌, ℕ, ◌+◌, ◌-◌, ◌*◌, ◌<◌, ◌≤◌, min, Bool, true, false, cond, not, ◌&&◌, ◌||◌, eqb, ltb, leb, List, [], ◌∷◌, ◌++◌, map, length, take, drop, set, Some, None, Ok, Err, Option, Result, sym, refl, ap, ◌∙◌, subst, arith}
+use Rattle.std.proofs.Common.{◌≡◌, ℕ, ◌+◌, ◌-◌, ◌*◌, ◌<◌, ◌≤◌, min, Bool, true, false, cond, not, ◌&&◌, ◌||◌, eqb, ltb, leb, List, [], ◌∷◌, ◌++◌, map, length, take, drop, set, None, Ok, Err, Result, sym, refl, ap, ◌∙◌, subst, arith}
+use Rattle.std.proofs.Math.Bool.{or-false, or_assoc}
 use Rattle.std.proofs.lemmas.List.{append_assoc, append-nil, length-append, length_push, flat_map_more, length-map, drop-drop, take-append-drop}
 use Rattle.std.proofs.lemmas.Bool.{leb-true, le-leb, ltb-true, lt-ltb, eqb-true, and_parts, and_from}
 use Rattle.datagram.specs.declared.fault.Fault.{Fault}
@@ -18,7 +19,7 @@ use Rattle.writer.specs.Drafts.{Draft, draft_says, fresh, first_of, unless, with
 use Rattle.writer.specs.Refusals.{refused_at}
 use Rattle.writer.specs.Runs.{content_in, part_added, add_all, if_accepted, accepted, Holds, Closed, WhatIsClosedReads, is_written, WhatFitsIsWritten, ReadsAs, Run, Written}
 use Rattle.writer.specs.Values.{Item, Part, part_of, part_octets, body_octets, datagram_octets, placed_from, every, within, data_of}
-use Rattle.writer.proofs.Answering.{clear_of, passes}
+use Rattle.writer.proofs.Answering.{clear_of, passes, took}
 use Rattle.writer.proofs.Trips.{parts_read}
 use Rattle.writer.proofs.Written.{item_readable}
 
@@ -84,28 +85,15 @@ worth (nack es) y e = refl
 worth (non_standard s) y e = refl
 worth (unsupported t x) y e = neither (eqb t 4) (eqb t 5) (not_ack t x y e) (not_nack t x y e)
 
-or-false : (b : Bool) → (b || false) ≡ b
-or-false true = refl
-or-false false = refl
-
-or_assoc : (a b c : Bool) → (a || (b || c)) ≡ ((a || b) || c)
-or_assoc true b c = refl
-or_assoc false b c = refl
-
 worth_push : (ps : List Part) (p : Part) (at : ℕ) → some_deserves (placed_from at (ps ++ p ∷ [])) ≡ (some_deserves (placed_from at ps) || deserving p.content)
 worth_push [] p at = or-false (deserving p.content)
 worth_push (q ∷ ps) p at =
     let to = at + 5 + length q.octets in
-    ap (λ b. deserving q.content || b) (worth_push ps p to) ∙ or_assoc (deserving q.content) (some_deserves (placed_from to ps)) (deserving p.content)
+    ap (λ b. deserving q.content || b) (worth_push ps p to) ∙ sym (or_assoc (deserving q.content) (some_deserves (placed_from to ps)) (deserving p.content))
 
 all_push : (ps : List Part) (p : Part) → AllOf Readable ps → Readable p → AllOf Readable (ps ++ p ∷ [])
 all_push [] p all h = (h, tt)
 all_push (q ∷ ps) p all h = (all.0, all_push ps p all.1 h)
-
--- a call that was accepted
-took : (o : Option Refusal) (x e : Draft) → unless o x ≡ Ok e → (o ≡ None) × (x ≡ e)
-took None x e h = (refl, cc)
-took (Some f) x e h = absurd (clash h)
 
 pub open_holds : (d e : Draft) (n : ℕ) (a : Bool) → d.room ≤ 1024 → open_of d n a ≡ Ok e → Holds n a [] e
 open_holds d e n a small h =
@@ -118,7 +106,7 @@ part_holds : (d e : Draft) (n : ℕ) (a : Bool) (ps : List Part) (p : Part) (ins
 part_holds d e n a ps p inside k r h =
     let x = part_octets p in
     let t = took (against_payload d.marks d.room (type_of p.content) (length p.octets) inside) _ e h in
-    let fit = (passes d.marks d.room (type_of p.content) (length p.octets) inside t.0).2 in
+    let fit = (passes d.marks d.room (type_of p.content) (length p.octets) inside t.0).1 in
     let body : body_octets ps ++ x ≡ body_octets (ps ++ p ∷ []) = flat_map_more part_octets [] ps p in
     let long = length-append (body_octets ps) x in
     let more : length (body_octets ps ++ x) ≡ length (body_octets (ps ++ p ∷ [])) = ap length body in
@@ -139,11 +127,11 @@ part_holds d e n a ps p inside k r h =
 pub add_holds : (d e : Draft) (n : ℕ) (a : Bool) (ps : List Part) (x : Addition) → Holds n a ps d → add_of d x ≡ Ok e → Holds n a (ps ++ part_added x ∷ []) e
 add_holds d e n a ps (item i) k h =
     let t = took (against_payload d.marks d.room (type_of i.content) (length (data_of i.content)) (within i)) _ e h in
-    let in' = (passes d.marks d.room (type_of i.content) (length (data_of i.content)) (within i) t.0).1 in
+    let in' = (passes d.marks d.room (type_of i.content) (length (data_of i.content)) (within i) t.0).0 in
     part_holds d e n a ps (part_of i) (within i) k (item_readable i in') h
 add_holds d e n a ps (typed s c x) k h =
     let t = took (against_payload d.marks d.room s (length x) (well_formed s x)) _ e h in
-    let in' = (passes d.marks d.room s (length x) (well_formed s x) t.0).1 in
+    let in' = (passes d.marks d.room s (length x) (well_formed s x) t.0).0 in
     let same = typed_type s c x in' in
     part_holds d e n a ps (part_added (typed s c x)) (well_formed s x) k (typed_readable s c x in') (ap (λ y. payload_of d y c x (well_formed s x)) same ∙ h)
 

@@ -14,9 +14,6 @@ use Rattle.writer.specs.Bodies.{body_from, body_payloads, how_many, headed, Head
 use Rattle.writer.specs.Values.{Item, Value, Part, part_of, part_octets, body_octets, datagram_octets, written, datagram, placed_from, placed, item_of, value_of, InRange}
 use Rattle.writer.proofs.Written.{back24, part_back, items_readable, contents_readable}
 
-ok_same : {X Y : Type 0} {x y : X} → ◌≡◌ {A = Result X Y} (Ok x) (Ok y) → x ≡ y
-ok_same e = cc
-
 -- a payload that is read stands behind its header, and is whole
 payload_lies : (d : List ℕ) (at : ℕ) (p : Payload) → payload_at d at ≡ Ok p → (p.offset ≡ at + 5) × (5 + length p.octets ≤ length d)
 payload_lies d at p e =
@@ -39,8 +36,8 @@ payloads_step n d b at p qs is e later = rw (← is, e, later) refl
 
 -- payloads read until nothing is left are as many payloads of the datagram
 payloads_of_body : (n : ℕ) (d b : List ℕ) (at : ℕ) (ps : List Payload) → b ≡ drop at d → length b ≤ n → body_from n b at ≡ Ok ps → payloads_from (length ps) d at ≡ Ok ps
-payloads_of_body zero d b at ps is short e = payloads_end d at ps (omega (arith, ap length is)) (ok_same e)
-payloads_of_body (suc n) d [] at ps is short e = payloads_end d at ps (omega (arith, ap length is)) (ok_same e)
+payloads_of_body zero d b at ps is short e = payloads_end d at ps (omega (arith, ap length is)) cc
+payloads_of_body (suc n) d [] at ps is short e = payloads_end d at ps (omega (arith, ap length is)) cc
 payloads_of_body (suc n) d (x ∷ b) at ps is short e =
     let k = bound (payload_at (x ∷ b) at) _ ps e in
     let p = k.0 in

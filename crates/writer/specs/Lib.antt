@@ -4,5 +4,6 @@ pub mod Octets
 pub mod Refusals
 pub mod Drafts
 pub mod Pieces
+pub mod Counted
 pub mod Runs
 pub mod Examples

@@ -1,6 +1,6 @@
 -- A datagram as a plain value, the octets that it is written as, and where its payloads then lie. Assumes nothing.
 use Rattle.std.specs.Prelude.{◌≡◌, ℕ, ◌+◌, ◌-◌, ◌<◌, ◌≤◌, Bool, true, not, ◌&&◌, ◌||◌, List, [], ◌∷◌, ◌++◌, map, length, Some, None, Option, ◌==◌, nat_lt}
-use Rattle.std.specs.List.{flat_map}
+use Rattle.std.specs.List.{flat_map, list_all}
 use Rattle.datagram.specs.Datagrams.{Datagram, some_deserves}
 use Rattle.datagram.specs.Layout.{octets24, header_octets, payload_octets, alive_octets, counted_octets, entry_octets, non_standard_octets}
 use Rattle.datagram.specs.Payloads.{Payload}
@@ -82,8 +82,7 @@ value_of g = record { number = g.number; wants_ack = g.wants_ack; items = map it
 
 -- whether each value lies within its field
 abbrev pub every : {X : Type 0} → (X → Bool) → List X → Bool
-every f [] = true
-every f (x ∷ xs) = f x && every f xs
+every f xs = list_all f xs
 
 abbrev pub is_number : ℕ → Bool
 is_number n = nat_lt n 16777216

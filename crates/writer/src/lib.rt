@@ -1,9 +1,10 @@
 // Writes H.323 Annex E datagrams into a caller's buffer: a header, then payloads, none of them ever by half.
 #![tactic(auto)]
 
+mod element;
 mod example;
-mod kind;
 mod marks;
+mod payload;
 mod pieces;
 mod refusal;
 mod size;

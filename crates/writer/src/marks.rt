@@ -1,14 +1,13 @@
 // How far a datagram is written, and the guard of a payload that was begun.
-ghost use Rattle.std.specs.Prelude.{◌≡◌, ◌+◌, ◌<◌, ◌≤◌, true, false, length, if◌then◌else◌};
-ghost use Rattle.writer.specs.Drafts.{fresh, opened_marks, closed_marks, is_open, fits, closable, counted, against_opening, against_payload, against_closing};
-ghost use Rattle.writer.specs.Pieces.{Put};
+ghost use Rattle.std.specs.Prelude.{◌≡◌, ◌+◌, ◌<◌, ◌≤◌, length, unwrap_or};
+ghost use Rattle.writer.specs.Drafts.{fresh, first_of, unless, opened_marks, closed_marks, is_open, fits, closable, counted, against_opening, against_closing};
+ghost use Rattle.writer.specs.Pieces.{Puts, against_data};
 ghost use Rattle.writer.specs.Refusals.{refused_at};
 
-use crate::kind::is_supported;
 use crate::refusal::{Found, Layer, Refusal};
 
 // The header of a datagram, and that of a payload.
-const HEADER: usize = 5;
+pub const HEADER: usize = 5;
 
 // More payloads have no room, even with no data. The room says so too; asked of the count as well, no marks can overflow it.
 const MOST_PAYLOADS: u8 = 203;
@@ -62,7 +61,7 @@ impl Marks {
         self.count
     }
 
-    fn refusal(&self, found: Found) -> Refusal
+    pub(crate) fn refusal(&self, found: Found) -> Refusal
         ensures { result ≡ refused_at self.now.mark found }
     {
         Refusal {
@@ -89,39 +88,50 @@ impl Marks {
             && HEADER <= room - octets - self.mark
     }
 
-    // What there is against a header with that number.
-    pub(crate) fn against_opening(&self, room: usize, number: u32) -> Option<Refusal>
-        ensures { result ≡ against_opening self.now room number }
+    // Refuses a header with that number, if something is against it.
+    pub(crate) fn check_opening(&self, room: usize, number: u32) -> Result<(), Refusal>
+        ensures { result ≡ unless (against_opening self.now room number) tt }
     {
         if self.mark != 0 || room < HEADER {
-            return Some(self.refusal(Found::NoRoom));
+            return Err(self.refusal(Found::NoRoom));
         }
         if number > LARGEST_NUMBER {
-            return Some(self.refusal(Found::OutsideField));
+            return Err(self.refusal(Found::OutsideField));
         }
-        None
+        Ok(())
     }
 
-    // What there is against a payload of that type with so many octets of data.
-    pub(crate) fn against_payload(
-        &self,
-        room: usize,
-        kind: u8,
-        octets: usize,
-        within: bool,
-    ) -> Option<Refusal>
-        ensures { result ≡ against_payload self.now room kind octets within }
+    // Refuses a payload with so many octets of data, if it has no room.
+    pub(crate) fn check_room(&self, room: usize, octets: usize) -> Result<(), Refusal>
+        ensures { result ≡ unless (first_of (fits self.now room octets) (refused_at self.now.mark Found.NoRoom) None) tt }
     {
         if !self.fits(room, octets) {
-            return Some(self.refusal(Found::NoRoom));
+            return Err(self.refusal(Found::NoRoom));
         }
-        if !is_supported(kind) {
-            return Some(self.refusal(Found::TypeNotWritten));
-        }
+        Ok(())
+    }
+
+    // Refuses a payload whose values do not lie within their fields.
+    pub(crate) fn check_within(&self, within: bool) -> Result<(), Refusal>
+        ensures { result ≡ unless (first_of within (refused_at self.now.mark Found.OutsideField) None) tt }
+    {
         if !within {
-            return Some(self.refusal(Found::OutsideField));
+            return Err(self.refusal(Found::OutsideField));
         }
-        None
+        Ok(())
+    }
+
+    // Refuses a payload of a type that is written, if something is against it.
+    pub(crate) fn check_payload(
+        &self,
+        room: usize,
+        octets: usize,
+        within: bool,
+    ) -> Result<(), Refusal>
+        ensures { result ≡ unless (against_data self.now room octets within) tt }
+    {
+        self.check_room(room, octets)?;
+        self.check_within(within)
     }
 
     fn is_closable(&self, room: usize) -> bool
@@ -130,14 +140,14 @@ impl Marks {
         self.is_open(room) && self.count > 0 && (!self.asked || self.deserved)
     }
 
-    // What there is against closing.
-    pub(crate) fn against_closing(&self, room: usize) -> Option<Refusal>
-        ensures { result ≡ against_closing self.now room }
+    // Refuses to close, if something is against it.
+    pub(crate) fn check_closing(&self, room: usize) -> Result<(), Refusal>
+        ensures { result ≡ unless (against_closing self.now room) tt }
     {
         if !self.is_closable(room) {
-            return Some(self.refusal(Found::NotClosable));
+            return Err(self.refusal(Found::NotClosable));
         }
-        None
+        Ok(())
     }
 
     pub(crate) fn close(&mut self)
@@ -145,61 +155,66 @@ impl Marks {
     {
         self.closed = true;
     }
-
-    // Writes `new` at the mark, and moves the mark past it.
-    pub(crate) fn put(&mut self, buffer: &mut [u8], new: &[u8])
-        requires { self.old.mark + length new.now ≤ length buffer.old }
-        ensures { Put buffer.old self.old new.now buffer.new self.new }
-    {
-        let end = self.mark + new.len();
-        buffer[self.mark..end].copy_from_slice(new);
-        self.mark = end;
-    }
 }
 
-// A payload that was begun: its end puts the marks back, unless it was finished.
+// A payload that was begun: what is put goes behind the mark, and its end puts the marks back, unless it was finished.
 pub struct Begun<'m> {
-    pub marks: &'m mut Marks,
-    before: Marks,
-    finished: bool,
+    buffer: &'m mut [u8],
+    marks: &'m mut Marks,
+    // None once there is nothing to put back.
+    before: Option<Marks>,
 }
 
 impl<'m> Begun<'m> {
-    pub(crate) fn new(marks: &'m mut Marks) -> Begun<'m>
-        ensures lent { result.marks.ghost_name ≡ marks.entry.ghost_name }
-        ensures value { (result.marks.now ≡ marks.old) × ((result.before ≡ marks.old) × (result.finished ≡ false)) }
+    pub(crate) fn new(buffer: &'m mut [u8], marks: &'m mut Marks) -> Begun<'m>
+        ensures lent_buffer { result.buffer.ghost_name ≡ buffer.entry.ghost_name }
+        ensures lent_marks { result.marks.ghost_name ≡ marks.entry.ghost_name }
+        ensures value { (result.buffer.now ≡ buffer.old) × ((result.marks.now ≡ marks.old) × (result.before ≡ Some marks.old)) }
     {
-        let before = *marks;
+        let before = Some(*marks);
         Begun {
+            buffer,
             marks,
             before,
-            finished: false,
         }
+    }
+
+    // Writes `new` at the mark, and moves the mark past it.
+    pub(crate) fn put(&mut self, new: &[u8])
+        requires { self.old.marks.now.mark + length new.now ≤ length self.old.buffer.now }
+        ensures { Puts self.old new.now self.new }
+    {
+        let start = self.marks.mark;
+        let end = start + new.len();
+        self.buffer[start..end].copy_from_slice(new);
+        self.marks.mark = end;
     }
 
     // One payload more; it deserves an Ack or not.
     pub(crate) fn finish(&mut self, deserving: bool)
         requires { self.old.marks.now.count < 255 }
-        ensures same { self.new.marks.ghost_name ≡ self.old.marks.ghost_name }
-        ensures moves { (self.new.marks.now ≡ counted self.old.marks.now deserving) × (self.new.finished ≡ true) }
+        ensures same_buffer { self.new.buffer.ghost_name ≡ self.old.buffer.ghost_name }
+        ensures same_marks { self.new.marks.ghost_name ≡ self.old.marks.ghost_name }
+        ensures moves { (self.new.buffer.now ≡ self.old.buffer.now) × ((self.new.marks.now ≡ counted self.old.marks.now deserving) × (self.new.before ≡ None)) }
     {
         self.marks.count += 1;
         self.marks.deserved = self.marks.deserved || deserving;
-        self.finished = true;
+        self.before = None;
     }
 }
 
 impl Drop for Begun<'_> {
     fn drop(self)
-        ensures { self.exit.0.now ≡ (if self.entry.finished then self.entry.marks.now else self.entry.before) }
+        ensures buffer { self.exit.0.now ≡ self.entry.buffer.now }
+        ensures marks { self.exit.1.0.now ≡ unwrap_or self.entry.before self.entry.marks.now }
     {
-        if !self.finished {
-            *self.marks = self.before;
+        if let Some(before) = self.before {
+            *self.marks = before;
         }
         let Begun {
+            buffer: _,
             marks: _,
             before: _,
-            finished: _,
         } = self;
     }
 }

@@ -1,15 +1,15 @@
-// Data that is given whole, with the type that it is said to have.
+// Data that is given whole, with the kind that it is said to have.
 ghost use Rattle.std.specs.Prelude.{◌≡◌};
 ghost use Rattle.writer.specs.Drafts.{reserved_clear, well_formed};
+ghost use Rattle.datagram.specs.Kinds.{number_of};
 
-use crate::kind::deserves_ack;
-use datagram::Content;
+use datagram::{Content, Kind};
 
 // The count of an Ack or a Nack has a reserved bit beside it, which is written as zero.
-fn is_reserved_clear(kind: u8, data: &[u8]) -> bool
-    ensures { result ≡ reserved_clear kind «data».now }
+fn is_reserved_clear(kind: Kind, data: &[u8]) -> bool
+    ensures { result ≡ reserved_clear (number_of kind) «data».now }
 {
-    if deserves_ack(kind) {
+    if kind.deserves_ack() {
         return true;
     }
     let &[count, ..] = data else {
@@ -18,12 +18,9 @@ fn is_reserved_clear(kind: u8, data: &[u8]) -> bool
     count & 1 == 0
 }
 
-// Whether the reader takes the data for a structure of that type, and its reserved bit is zero.
-pub(crate) fn is_well_formed(kind: u8, data: &[u8]) -> bool
-    ensures { result ≡ well_formed kind «data».now }
+// Whether the reader takes the data for a structure of that kind, and its reserved bit is zero.
+pub(crate) fn is_well_formed(kind: Kind, data: &[u8]) -> bool
+    ensures { result ≡ well_formed (number_of kind) «data».now }
 {
-    match Content::read(kind, data, 0) {
-        Ok(_) => is_reserved_clear(kind, data),
-        Err(_) => false,
-    }
+    Content::read(kind.number(), data, 0).is_ok() && is_reserved_clear(kind, data)
 }

@@ -3,20 +3,19 @@ ghost use Rattle.std.specs.Prelude.{◌≡◌, min, map, length};
 ghost use Rattle.std.specs.Option.{option_map};
 ghost use Rattle.datagram.specs.Structures.{call_message, i_am_alive, ack, nack, non_standard};
 ghost use Rattle.datagram.specs.Views.{alive_says, entry_says, non_standard_says};
-ghost use Rattle.writer.specs.Drafts.{fresh, draft_says, against_opening, against_payload, against_closing, open_of, item, typed, add_of, close_of, Does, done, size};
+ghost use Rattle.writer.specs.Drafts.{fresh, draft_says, unless, open_of, item, typed, add_of, close_of, Does, done, size};
+ghost use Rattle.writer.specs.Pieces.{against_data};
 ghost use Rattle.writer.specs.Runs.{ReadsAs, WhatIsClosedReads};
 ghost use Rattle.writer.specs.Values.{cookie_octets, plainly};
 
-use crate::kind::{ACK, CALL_MESSAGE, I_AM_ALIVE, NACK, NON_STANDARD};
-use crate::marks::Marks;
-use crate::pieces::{alive_header, header, write_ack, write_nack, write_pieces};
-use crate::refusal::Refusal;
-use crate::size::{
-    MAXIMUM, ack_size, ack_within, alive_size, cookie_within, nack_size, nack_within,
-    non_standard_size, oid_within,
-};
+use crate::element::{Element, counted_size, counted_within};
+use crate::marks::{HEADER, Marks};
+use crate::payload::{write_counted, write_pieces};
+use crate::pieces::{alive_header, header};
+use crate::refusal::{Found, Refusal};
+use crate::size::{alive_size, cookie_within, non_standard_size, oid_within};
 use crate::typed::is_well_formed;
-use datagram::{Alive, Entry, NonStandard};
+use datagram::{Alive, Entry, Kind, MAXIMUM, NonStandard};
 
 fn octets_of(cookie: Option<&[u8]>) -> &[u8]
     ensures { result.now ≡ cookie_octets (option_map (λ c. c.now) cookie.entry) }
@@ -28,6 +27,7 @@ fn octets_of(cookie: Option<&[u8]>) -> &[u8]
 }
 
 // One datagram in the making: open it, add payloads, close it. A call that is refused changes nothing.
+// The buffer is the caller's, with its mark beside it, since nothing here is on a heap.
 #[derive(Drop)]
 pub struct Writer<'b> {
     buffer: &'b mut [u8],
@@ -53,23 +53,10 @@ impl<'b> Writer<'b> {
         self.buffer.len().min(MAXIMUM)
     }
 
-    fn against_opening(&self, number: u32) -> Option<Refusal>
-        ensures { result ≡ against_opening self.now.marks (min 1024 (length self.now.buffer.now)) number }
+    fn check_payload(&self, octets: usize, within: bool) -> Result<(), Refusal>
+        ensures { result ≡ unless (against_data self.now.marks (min 1024 (length self.now.buffer.now)) octets within) tt }
     {
-        self.marks.against_opening(self.room(), number)
-    }
-
-    fn against(&self, kind: u8, octets: usize, within: bool) -> Option<Refusal>
-        ensures { result ≡ against_payload self.now.marks (min 1024 (length self.now.buffer.now)) kind octets within }
-    {
-        self.marks
-            .against_payload(self.room(), kind, octets, within)
-    }
-
-    fn against_closing(&self) -> Option<Refusal>
-        ensures { result ≡ against_closing self.now.marks (min 1024 (length self.now.buffer.now)) }
-    {
-        self.marks.against_closing(self.room())
+        self.marks.check_payload(self.room(), octets, within)
     }
 
     // The header, at the buffer's start. COUNT is written at closing.
@@ -77,12 +64,21 @@ impl<'b> Writer<'b> {
         ensures same { self.new.buffer.ghost_name ≡ self.old.buffer.ghost_name }
         ensures does { Does self.old (open_of (draft_says self.old) number wants_ack) done result self.new }
     {
-        if let Some(refusal) = self.against_opening(number) {
-            return Err(refusal);
-        }
+        let room = self.room();
+        self.marks.check_opening(room, number)?;
+        self.buffer[0..HEADER].copy_from_slice(&header(number, wants_ack));
+        self.marks = Marks::opened(wants_ack);
+        Ok(())
+    }
+
+    fn add_counted<E: Element>(&mut self, crv: u16, elements: &[E]) -> Result<(), Refusal>
+        ensures same { self.new.buffer.ghost_name ≡ self.old.buffer.ghost_name }
+        ensures does { Does self.old (add_of (draft_says self.old) (item (record { crv = crv; content = E.content elements.now }))) done result self.new }
+    {
+        let octets = counted_size(elements);
+        self.check_payload(octets, counted_within(elements))?;
         let Writer { buffer, marks } = self;
-        marks.put(buffer, &header(number, wants_ack));
-        *marks = Marks::opened(wants_ack);
+        write_counted(buffer, marks, crv, octets as u16, elements);
         Ok(())
     }
 
@@ -90,11 +86,9 @@ impl<'b> Writer<'b> {
         ensures same { self.new.buffer.ghost_name ≡ self.old.buffer.ghost_name }
         ensures does { Does self.old (add_of (draft_says self.old) (item (record { crv = crv; content = call_message message.now }))) done result self.new }
     {
-        if let Some(refusal) = self.against(CALL_MESSAGE, message.len(), true) {
-            return Err(refusal);
-        }
+        self.check_payload(message.len(), true)?;
         let Writer { buffer, marks } = self;
-        write_pieces(buffer, marks, CALL_MESSAGE, crv, &[], &[], message);
+        write_pieces(buffer, marks, Kind::CallMessage, crv, &[], &[], message);
         Ok(())
     }
 
@@ -104,13 +98,10 @@ impl<'b> Writer<'b> {
         ensures does { Does self.old (add_of (draft_says self.old) (item (record { crv = crv; content = i_am_alive (plainly (alive_says alive.entry)) }))) done result self.new }
     {
         let cookie = octets_of(alive.cookie);
-        let octets = alive_size(cookie.len());
-        if let Some(refusal) = self.against(I_AM_ALIVE, octets, cookie_within(cookie.len())) {
-            return Err(refusal);
-        }
+        self.check_payload(alive_size(cookie.len()), cookie_within(cookie.len()))?;
         let head = alive_header(alive.validity, cookie.len() as u16, alive.wants_reply);
         let Writer { buffer, marks } = self;
-        write_pieces(buffer, marks, I_AM_ALIVE, crv, &head, &[], cookie);
+        write_pieces(buffer, marks, Kind::IAmAlive, crv, &head, &[], cookie);
         Ok(())
     }
 
@@ -118,26 +109,14 @@ impl<'b> Writer<'b> {
         ensures same { self.new.buffer.ghost_name ≡ self.old.buffer.ghost_name }
         ensures does { Does self.old (add_of (draft_says self.old) (item (record { crv = crv; content = ack numbers.now }))) done result self.new }
     {
-        let octets = ack_size(numbers.len());
-        if let Some(refusal) = self.against(ACK, octets, ack_within(numbers)) {
-            return Err(refusal);
-        }
-        let Writer { buffer, marks } = self;
-        write_ack(buffer, marks, crv, numbers);
-        Ok(())
+        self.add_counted(crv, numbers)
     }
 
     pub fn add_nack(&mut self, crv: u16, entries: &[Entry]) -> Result<(), Refusal>
         ensures same { self.new.buffer.ghost_name ≡ self.old.buffer.ghost_name }
         ensures does { Does self.old (add_of (draft_says self.old) (item (record { crv = crv; content = nack (map entry_says entries.now) }))) done result self.new }
     {
-        let octets = nack_size(entries);
-        if let Some(refusal) = self.against(NACK, octets, nack_within(entries)) {
-            return Err(refusal);
-        }
-        let Writer { buffer, marks } = self;
-        write_nack(buffer, marks, crv, octets as u16, entries);
-        Ok(())
+        self.add_counted(crv, entries)
     }
 
     pub fn add_non_standard(&mut self, crv: u16, content: NonStandard) -> Result<(), Refusal>
@@ -145,13 +124,13 @@ impl<'b> Writer<'b> {
         ensures does { Does self.old (add_of (draft_says self.old) (item (record { crv = crv; content = non_standard (non_standard_says content.entry) }))) done result self.new }
     {
         let NonStandard { oid, free } = content;
-        let octets = non_standard_size(oid.len(), free.len());
-        if let Some(refusal) = self.against(NON_STANDARD, octets, oid_within(oid.len())) {
-            return Err(refusal);
-        }
+        self.check_payload(
+            non_standard_size(oid.len(), free.len()),
+            oid_within(oid.len()),
+        )?;
         let head = (oid.len() as u16).to_be_bytes();
         let Writer { buffer, marks } = self;
-        write_pieces(buffer, marks, NON_STANDARD, crv, &head, oid, free);
+        write_pieces(buffer, marks, Kind::NonStandard, crv, &head, oid, free);
         Ok(())
     }
 
@@ -160,9 +139,12 @@ impl<'b> Writer<'b> {
         ensures same { self.new.buffer.ghost_name ≡ self.old.buffer.ghost_name }
         ensures does { Does self.old (add_of (draft_says self.old) (typed kind crv «data».now)) done result self.new }
     {
-        if let Some(refusal) = self.against(kind, data.len(), is_well_formed(kind, data)) {
-            return Err(refusal);
-        }
+        let room = self.room();
+        self.marks.check_room(room, data.len())?;
+        let Ok(kind) = Kind::try_from(kind) else {
+            return Err(self.marks.refusal(Found::TypeNotWritten));
+        };
+        self.marks.check_within(is_well_formed(kind, data))?;
         let Writer { buffer, marks } = self;
         write_pieces(buffer, marks, kind, crv, &[], &[], data);
         Ok(())
@@ -175,12 +157,10 @@ impl<'b> Writer<'b> {
         ensures reads { ReadsAs self.old result self.new }
         ensures law { WhatIsClosedReads }
     {
-        if let Some(refusal) = self.against_closing() {
-            return Err(refusal);
-        }
-        let Writer { buffer, marks } = self;
-        buffer[4] = marks.count() - 1;
-        marks.close();
-        Ok(marks.mark())
+        let room = self.room();
+        self.marks.check_closing(room)?;
+        self.buffer[4] = self.marks.count() - 1;
+        self.marks.close();
+        Ok(self.marks.mark())
     }
 }

@@ -9,6 +9,5 @@ pub fn acknowledge(out: &mut [u8], number: u32, of: u32) -> Result<usize, Refusa
     let mut writer = Writer::over(out);
     writer.open(number, false)?;
     writer.add_ack(0, &[of])?;
-    let size = writer.close()?;
-    Ok(size)
+    writer.close()
 }

@@ -35,26 +35,30 @@ fn write(rt: &impl Abort, out: &mut [u8]) -> Result<usize, Fail> {
 }
 
 fn is_setup(payload: Option<Payload>, crv: u16, setup: &[u8]) -> bool {
-    let Some(payload) = payload else {
-        return false;
-    };
-    match payload.content {
-        Content::CallMessage(message) => payload.crv == crv && message == setup,
-        _ => false,
-    }
+    payload.is_some_and(|payload| {
+        payload.crv == crv
+            && matches!(payload.content, Content::CallMessage(message) if message == setup)
+    })
 }
 
 fn is_alive(payload: Option<Payload>) -> bool {
-    let Some(payload) = payload else {
+    let Some(
+        Payload {
+            crv: 0,
+            content: Content::IAmAlive(
+                Alive {
+                    validity: 30,
+                    wants_reply: true,
+                    cookie: Some(cookie),
+                },
+            ),
+            ..
+        },
+    ) = payload
+    else {
         return false;
     };
-    let Content::IAmAlive(alive) = payload.content else {
-        return false;
-    };
-    let Some(cookie) = alive.cookie else {
-        return false;
-    };
-    payload.crv == 0 && alive.validity == 30 && alive.wants_reply && cookie == &COOKIE[..]
+    cookie == &COOKIE[..]
 }
 
 fn check_read(rt: &impl Abort, octets: &[u8]) -> Result<(), Fail> {
