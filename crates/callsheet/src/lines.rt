@@ -1,7 +1,6 @@
 // The lines of one record, and the line of a stop.
 ghost use Rattle.std.specs.Prelude.{◌≡◌, ◌++◌, IfOk, Some, string_bytes};
 ghost use Rattle.std.specs.Fmt.{WritesOnOk};
-ghost use Rattle.std.specs.Fmt.InlineText.{inline_text};
 ghost use Rattle.datagram.specs.Views.{payload_says, payloads_say};
 ghost use Rattle.capture.specs.Views.{record_says};
 ghost use Rattle.callsheet.specs.Laws.{RecordsMakeTheSheet};
@@ -11,15 +10,11 @@ use capture::{Record, Stop};
 use datagram::{Datagram, Payload, Payloads};
 use std::alloc::{AllocError, Global};
 use std::fmt;
-use std::fmt::{InlineText, Write};
+use std::fmt::Write;
 use std::net::{Ipv4Addr, SocketAddrV4};
 
 // What each sheet begins with.
 pub(crate) const COLUMN_LINE: &str = "rec sec from num type call len\n";
-
-// Room for the front of a line with the number of a datagram behind it: the largest numbers have 10, 10, 3, 3, 3, 3, 5 and 10
-// digits, and a sign follows each.
-const LONGEST_FRONT: usize = 55;
 
 // What each line of record `number` begins with.
 #[derive(Clone, Copy)]
@@ -37,18 +32,6 @@ impl fmt::Display for Front<'_> {
     }
 }
 
-impl Front<'_> {
-    // The same with the number of an accepted datagram behind it. It is printed once for all lines of the datagram, since most
-    // of a line is its front: printed for each of them, it took a quarter more of the program's time.
-    fn with_number(self, number: u32) -> Result<InlineText<LONGEST_FRONT>, fmt::Error>
-        ensures { IfOk result (λ t. inline_text t ≡ front_text self.entry.number (record_says self.entry.«record».now) ++ spaced number) }
-    {
-        let mut text = InlineText::new();
-        write!(text, "{self}{number} ")?;
-        Ok(text)
-    }
-}
-
 // The lines of record `number`: one for each payload of a datagram that is accepted, or one for the fault of one that is refused.
 #[derive(Clone, Copy)]
 pub(crate) struct Lines<'f>(pub(crate) Front<'f>);
@@ -59,10 +42,7 @@ impl fmt::Display for Lines<'_> {
     fn fmt<W: fmt::Write>(&self, f: &mut fmt::Formatter<W>) -> fmt::Result {
         let front = self.0;
         match Datagram::read(front.record.datagram) {
-            Ok(datagram) => {
-                let front = front.with_number(datagram.number)?;
-                write_payloads(f, front.as_str(), datagram.payloads)
-            }
+            Ok(datagram) => write_payloads(f, front, datagram.number, datagram.payloads),
             Err(fault) => writeln!(
                 f,
                 "{front}fault {} {}",
@@ -73,17 +53,18 @@ impl fmt::Display for Lines<'_> {
     }
 }
 
-// A line for each payload, each with the same front.
+// A line for each payload of a datagram that is accepted, each with the same front.
 fn write_payloads<W: fmt::Write>(
     f: &mut fmt::Formatter<W>,
-    front: &str,
+    front: Front,
+    number: u32,
     payloads: Payloads,
 ) -> fmt::Result
-    ensures { WritesOnOk W.write_str_gives f.old result (payload_lines front.now (payloads_say payloads.entry)) f.new }
+    ensures { WritesOnOk W.write_str_gives f.old result (payload_lines (front_text front.entry.number (record_says front.entry.«record».now) ++ spaced number) (payloads_say payloads.entry)) f.new }
 {
     for payload in payloads {
         let line = PayloadLine(payload);
-        write!(f, "{front}{line}")?;
+        write!(f, "{front}{number} {line}")?;
     }
     Ok(())
 }
