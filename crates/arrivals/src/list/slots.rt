@@ -39,7 +39,7 @@ fn keep_near(slot: Option<Number>, newest: Number) -> Option<Number>
 }
 
 // Forgets the numbers that are behind `newest` by the depth or more.
-// A loop and no `slots.map(..)`: an array's `map` moves each slot twice, and the list book took 2.4 times as long.
+// A loop and no `slots.map(..)`: with an array's `map` a list book's note and judge took 2.4 times as long.
 fn forget_far(mut slots: [Option<Number>; SLOTS], newest: Number) -> [Option<Number>; SLOTS]
     ensures { result ≡ map (keep_near 24 newest.value) slots }
 {
