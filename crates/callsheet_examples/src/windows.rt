@@ -3,17 +3,22 @@ use callsheet::{Sheet, sheet_of};
 use std::alloc::{AllocError, Global};
 use std::test::Fail;
 
-// The sheet of two windows; the third, to which nothing comes, is the last.
+// The sheet of two windows; the third, to which nothing comes, is the last. They are written out, since a loop over an array of
+// these slices, which have lifetimes of their own, gets no proof.
 fn in_two(heap: Global, first: &[u8], second: &[u8]) -> Result<String, AllocError> {
     let mut sheet = Sheet::begin(heap)?;
     let mut whole = String::from_str(heap, sheet.text())?;
-    for (octets, last) in [(first, false), (second, false), (&[], true)] {
-        sheet.unread.extend_from_slice(octets)?;
-        let more = sheet.read_window(last)?;
+    sheet.unread.extend_from_slice(first)?;
+    let mut more = sheet.read_window(false)?;
+    whole.push_str(sheet.text())?;
+    if more {
+        sheet.unread.extend_from_slice(second)?;
+        more = sheet.read_window(false)?;
         whole.push_str(sheet.text())?;
-        if !more {
-            break;
-        }
+    }
+    if more {
+        let _ = sheet.read_window(true)?;
+        whole.push_str(sheet.text())?;
     }
     Ok(whole)
 }
