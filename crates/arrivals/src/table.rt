@@ -60,7 +60,8 @@ impl<W: Window> ArrivalBook for Table<W> {
             return;
         };
         if place < PLACES && judge_at(&self.places[place], number) == Judgement::Fresh {
-            self.places[place] = with_at(self.places[place], number);
+            let at = &mut self.places[place];
+            *at = with_at(*at, number);
         }
     }
 }

@@ -7,7 +7,7 @@ ghost use Rattle.callsheet.specs.Laws.{RecordsMakeTheSheet};
 ghost use Rattle.callsheet.specs.Text.{spaced, front_text, payload_text, payload_lines, record_text, stop_text};
 
 use capture::{Record, Stop};
-use datagram::{Datagram, Payload, Payloads};
+use datagram::{Datagram, Payloads};
 use std::alloc::{AllocError, Global};
 use std::fmt;
 use std::fmt::Write;
@@ -63,29 +63,11 @@ fn write_payloads<W: fmt::Write>(
     ensures { WritesOnOk W.write_str_gives f.old result (payload_lines (front_text front.entry.number (record_says front.entry.«record».now) ++ spaced number) (payloads_say payloads.entry)) f.new }
 {
     for payload in payloads {
-        let line = PayloadLine(payload);
-        write!(f, "{front}{number} {line}")?;
+        let kind = payload.content.kind();
+        let octets = payload.data.len();
+        writeln!(f, "{front}{number} {kind} {} {octets}", payload.crv)?;
     }
     Ok(())
-}
-
-// What the line of a payload ends with.
-#[derive(Clone, Copy)]
-struct PayloadLine<'d>(Payload<'d>);
-
-impl fmt::Display for PayloadLine<'_> {
-    ghost output = { λ s. Some (payload_text (payload_says s.0)) };
-
-    fn fmt<W: fmt::Write>(&self, f: &mut fmt::Formatter<W>) -> fmt::Result {
-        let PayloadLine(payload) = self;
-        writeln!(
-            f,
-            "{} {} {}",
-            payload.content.kind(),
-            payload.crv,
-            payload.data.len()
-        )
-    }
 }
 
 // The line that ends the sheet of a capture which cannot be read on.

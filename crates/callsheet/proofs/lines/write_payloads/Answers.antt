@@ -14,7 +14,7 @@ loop-payload-preserved g c = (
       let h = c.loop-payload.invariant.2 plain in
       record {
         written = _;
-        wrote = has_written_append _ _ _ _ _ _ h.wrote (c.write.ensures.writes h.wrote.plain (search rules));
-        all = line_more _ h.written _ _ _ c.in-Some.ensures.steps h.all;
+        wrote = has_written_append _ _ _ _ _ _ h.wrote (c.writeln.ensures.writes h.wrote.plain (search rules));
+        all = line_more _ h.written _ _ _ _ _ _ c.in-Some.ensures.steps (search rules) (search rules) (search rules) h.all;
       },
 )
