@@ -11,7 +11,8 @@ pub enum Judgement {
 }
 
 // An arrival book remembers, place by place, which numbers came, though they wrap and come out of order.
-// The depth is how far behind the newest number a number can still be told fresh.
+// The depth is how far behind the newest number a number can still be told fresh. Place and number stay two plain arguments: one is the
+// neighbour's, the other what its datagram says, and any of either is answered.
 pub trait ArrivalBook {
     ghost depth: { ℕ };
 

@@ -29,7 +29,7 @@ fn run<B: ArrivalBook + Drop>(places: &[usize], numbers: &[u32], judgements: &mu
     count
 }
 
-// A run of the mask book.
+// A run of the mask book. C calls each run by its own name.
 #[unsafe(no_mangle)]
 pub extern "C" fn arrivals_mask_run(
     places: &[usize],

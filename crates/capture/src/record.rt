@@ -7,7 +7,7 @@ ghost use Rattle.capture.specs.Views.{record_says};
 // What a length field may say at most.
 const LONGEST: usize = 4096;
 
-// The kind of a record that holds a datagram.
+// The kind of a record that holds a datagram. There is no other, and an enum of kinds would have one case.
 const DATAGRAM: u16 = 1;
 
 // `datagram` is a part of the caller's octets, sound or not.

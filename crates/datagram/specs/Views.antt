@@ -1,4 +1,5 @@
 -- What the views of the code say: each names parts of the caller's octets, and stands for a value of the definitions. Assumes nothing.
+-- Functions and no `impl Model`: these types are `Copy`, and a model is not supported for one that has a lifetime.
 use Rattle.std.specs.Prelude.{ℕ, List}
 use Rattle.std.specs.Option.{option_map}
 use Rattle.datagram.specs.declared.content.Content as content

@@ -23,7 +23,7 @@ pub enum Content<'d> {
 }
 
 impl<'d> Content<'d> {
-    // The payload's type, as the datagram has it.
+    // The payload's type, as the datagram has it: a number and no `Kind`, since most of the 128 types have no meaning here.
     pub fn kind(&self) -> u8
         ensures { result ≡ type_of (content_says self.now) }
     {
@@ -37,7 +37,8 @@ impl<'d> Content<'d> {
         }
     }
 
-    // The data of a payload of that type, whose first octet has the offset `offset`.
+    // The data of a payload of that type, whose first octet has the offset `offset`. Data and offset stay two arguments, down to the
+    // structures: a struct of both would only be made here and taken apart there.
     pub fn read(kind: u8, data: &'d [u8], offset: usize) -> Result<Content<'d>, Fault>
         ensures { map_ok content_says result ≡ content_of kind «data».now offset }
     {

@@ -17,6 +17,7 @@ pub enum Question {
 }
 
 impl Question {
+    // A method and no `From`: the name says which number it is.
     pub fn number(self) -> u8
         ensures { result ≡ number_of self }
     {

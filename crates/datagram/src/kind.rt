@@ -34,6 +34,7 @@ impl TryFrom<u8> for Kind {
 }
 
 impl Kind {
+    // The way back from `try_from`, by a name that says which number it is.
     pub fn number(self) -> u8
         ensures { result ≡ number_of self }
     {

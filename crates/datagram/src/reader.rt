@@ -8,6 +8,8 @@ ghost use Rattle.datagram.specs.Views.{payload_says, place_says};
 use crate::fault::{Fault, Question};
 use crate::payload::Payload;
 
+// The datagram stays whole with the place beside it, as faults count from its first octet; how many payloads are to come is what its
+// header announced, and not a length of what is there.
 #[derive(Clone, Copy)]
 pub struct Reader<'d> {
     datagram: &'d [u8],

@@ -5,6 +5,7 @@ use endpoint::{Refusal, Sent, Settled, Ticked};
 // A payload that an arrival handed out.
 #[derive(Drop)]
 pub struct HandedOut {
+    // the type, by its number: most of the 128 have no meaning here
     pub kind: u8,
     pub crv: u16,
     pub data: Vec<u8>,

@@ -15,7 +15,9 @@ const MOST_PAYLOADS: u8 = 203;
 pub const LARGEST_NUMBER: u32 = 0xFF_FFFF;
 
 // The mark counts the octets that are filled, and is 0 until a datagram is opened; the count counts its payloads.
-// An Ack is asked for or not, and some payload deserves it or none.
+// How much room there is belongs to the buffer and not to the marks, so each question is given it.
+// An Ack is asked for or not, and some payload deserves it or none. `closed` is a flag and no type of its own: a call in the wrong
+// state is refused at the mark, and not ruled out.
 #[derive(Clone, Copy)]
 pub struct Marks {
     mark: usize,

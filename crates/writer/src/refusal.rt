@@ -12,6 +12,7 @@ pub enum Found {
 }
 
 impl Found {
+    // A method and no `From`: the name says which number it is.
     pub fn number(self) -> u8
         ensures { result ≡ number_of self }
     {
@@ -25,7 +26,8 @@ pub enum Layer {
     Writer,
 }
 
-// A refused call changed nothing. The offset is the writer's mark.
+// A refused call changed nothing. The offset is the writer's mark. A type of its own beside the reader's `Fault`, so that what only one
+// of them can find is not told of the other.
 #[derive(Clone, Copy, Debug, PartialEq, Eq)]
 pub struct Refusal {
     pub found: Found,

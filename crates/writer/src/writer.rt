@@ -13,21 +13,13 @@ use crate::marks::{HEADER, Marks};
 use crate::payload::{write_counted, write_pieces};
 use crate::pieces::{alive_header, header};
 use crate::refusal::{Found, Refusal};
-use crate::size::{alive_size, cookie_within, non_standard_size, oid_within};
+use crate::size::{LONGEST_COOKIE, LONGEST_OID, alive_size, non_standard_size};
 use crate::typed::is_well_formed;
 use datagram::{Alive, Entry, Kind, MAXIMUM, NonStandard};
 
-fn octets_of(cookie: Option<&[u8]>) -> &[u8]
-    ensures { result.now ≡ cookie_octets (option_map (λ c. c.now) cookie.entry) }
-{
-    match cookie {
-        Some(octets) => octets,
-        None => &[],
-    }
-}
-
 // One datagram in the making: open it, add payloads, close it. A call that is refused changes nothing.
-// The buffer is the caller's, with its mark beside it, since nothing here is on a heap.
+// The buffer is the caller's, with its mark beside it, since nothing here is on a heap. That it stays the caller's is said by each call
+// (`same`): it is a fact of two states, which no type of one can say.
 #[derive(Drop)]
 pub struct Writer<'b> {
     buffer: &'b mut [u8],
@@ -97,8 +89,8 @@ impl<'b> Writer<'b> {
         ensures same { self.new.buffer.ghost_name ≡ self.old.buffer.ghost_name }
         ensures does { Does self.old (add_of (draft_says self.old) (item (record { crv = crv; content = i_am_alive (plainly (alive_says alive.entry)) }))) done result self.new }
     {
-        let cookie = octets_of(alive.cookie);
-        self.check_payload(alive_size(cookie.len()), cookie_within(cookie.len()))?;
+        let cookie = alive.cookie.unwrap_or(&[]);
+        self.check_payload(alive_size(cookie.len()), cookie.len() <= LONGEST_COOKIE)?;
         let head = alive_header(alive.validity, cookie.len() as u16, alive.wants_reply);
         let Writer { buffer, marks } = self;
         write_pieces(buffer, marks, Kind::IAmAlive, crv, &head, &[], cookie);
@@ -126,7 +118,7 @@ impl<'b> Writer<'b> {
         let NonStandard { oid, free } = content;
         self.check_payload(
             non_standard_size(oid.len(), free.len()),
-            oid_within(oid.len()),
+            oid.len() <= LONGEST_OID,
         )?;
         let head = (oid.len() as u16).to_be_bytes();
         let Writer { buffer, marks } = self;
@@ -134,7 +126,8 @@ impl<'b> Writer<'b> {
         Ok(())
     }
 
-    // Data by the number of its type. It must be what the reader takes for a structure of that type.
+    // Data by the number of its type: whether that type is written is one of the questions. It must be what the reader takes for a
+    // structure of that type.
     pub fn add_by_type(&mut self, kind: u8, crv: u16, data: &[u8]) -> Result<(), Refusal>
         ensures same { self.new.buffer.ghost_name ≡ self.old.buffer.ghost_name }
         ensures does { Does self.old (add_of (draft_says self.old) (typed kind crv «data».now)) done result self.new }

@@ -17,7 +17,7 @@ pub struct Entry<'d> {
     pub data: &'d [u8],
 }
 
-// The entries that are still to come, so many of them in these octets.
+// The entries that are still to come, so many of them in these octets. The number is announced, and need not fit the octets.
 #[derive(Clone, Copy)]
 pub struct Nack<'d> {
     octets: &'d [u8],
