@@ -40,7 +40,8 @@ impl<'d> Payload<'d> {
         })
     }
 
-    // An Ack may be asked for only along with something other than Acks and Nacks.
+    // An Ack may be asked for only along with something other than Acks and Nacks. Asked of the content, as not every content is of a
+    // `Kind`.
     pub(crate) fn deserves_ack(&self) -> bool
         ensures { result ≡ deserves_ack (payload_says self.now) }
     {

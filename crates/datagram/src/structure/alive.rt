@@ -14,17 +14,6 @@ pub struct Alive<'d> {
     pub cookie: Option<&'d [u8]>,
 }
 
-// A cookie of length 0 is an absent one.
-fn present(octets: &[u8]) -> Option<&[u8]>
-    ensures { option_map (λ x. x.now) result ≡ cookie_of octets.now }
-{
-    if octets.is_empty() {
-        None
-    } else {
-        Some(octets)
-    }
-}
-
 impl<'d> Alive<'d> {
     pub(crate) fn read(data: &'d [u8], offset: usize) -> Result<Alive<'d>, Fault>
         ensures { map_ok alive_says result ≡ alive_of «data».now offset }
@@ -39,7 +28,8 @@ impl<'d> Alive<'d> {
         Ok(Alive {
             validity: u16::from_be_bytes([v1, v0]),
             wants_reply: sized & 1 == 1,
-            cookie: present(cookie),
+            // A cookie of length 0 is an absent one.
+            cookie: (!cookie.is_empty()).then_some(cookie),
         })
     }
 }
