@@ -1,5 +1,5 @@
 -- The bits of a mask.
-use Rattle.std.specs.Prelude.{◌≡◌, ℕ, zero, suc, ◌+◌, ◌-◌, ◌*◌, ◌/◌, ◌%◌, ◌^◌, ◌<◌, ◌≤◌, true, false, ◌||◌, ◌==◌, nat_eq, refl}
+use Rattle.std.specs.Prelude.{◌≡◌, ℕ, zero, suc, ◌+◌, ◌-◌, ◌*◌, ◌/◌, ◌%◌, ◌^◌, ◌<◌, ◌≤◌, true, false, ◌||◌, ◌==◌, ◌≢◌, nat_eq, refl}
 use Rattle.std.proofs.Common.{sym, ap, subst, ◌∙◌, ⊎_elim, arith, mul_assoc, add-one}
 use Rattle.std.proofs.Math.Nat.{div-eq_of_lt}
 use Rattle.std.specs.Int.Bits.{bit_or, bit_and, shifted_even}
@@ -72,6 +72,12 @@ bit_one (suc j) p = let more : 1 < 2 ^ suc j = pow_below 0 (suc j) p in ap (λ v
 pub bit_test : (b j : ℕ) → (bit_and (b / 2 ^ j) 1 == 1) ≡ bit b j
 unfolding bit
 bit_test b j = ap (λ v. nat_eq v 1) (and_mask (b / 2 ^ j) 1)
+
+pub bit_and_lem : (b j : ℕ) → bit_and (b / 2 ^ j) 1 ≡ 1 → bit b j ≡ true
+bit_and_lem b j e = sym (bit_test b j) ∙ eq-eqb _ _ e
+
+pub bit_and_not : (b j : ℕ) → (bit_and (b / 2 ^ j) 1 ≢ 1) → bit b j ≡ false
+bit_and_not b j e = sym (bit_test b j) ∙ ne_eqb _ _ e
 
 pub bit_none : (j : ℕ) → bit 0 j ≡ false
 unfolding bit

@@ -1,4 +1,5 @@
 -- Judging and noting where a place is kept as slots that hold the numbers.
+-- (No proof needs `list_again`, `list_fresh` and `list_old` since `judge` is written once for all windows: they stand for whoever reads on.)
 use Rattle.std.specs.Prelude.{◌≡◌, ℕ, ◌+◌, ◌<◌, ◌≤◌, true, false, cond, ◌&&◌, ◌||◌, ltb, leb, ◌⊎◌, List, [], Some, None, Option, is_some, map, ◌==◌, ◌≢◌, nat_lt, refl}
 use Rattle.std.proofs.Common.{sym, ap, ap₂, subst, ◌∙◌, inl, inr, ⊎_elim, arith}
 use Rattle.std.proofs.Math.Path.{fun_ext}

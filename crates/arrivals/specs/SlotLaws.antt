@@ -167,3 +167,9 @@ kept_near d n k (x ∷ xs) t = ap₂ ◌+◌ (ap (λ b. cond b 1 0) (kept_in d n
 pub kept_far : (d n k : ℕ) (xs : List Slot) → nat_lt (steps_up n k) d ≡ false → times k (map (keep_near d n) xs) ≡ 0
 kept_far d n k [] t = refl
 kept_far d n k (x ∷ xs) t = ap₂ ◌+◌ (ap (λ b. cond b 1 0) (kept_out d n k x t)) (kept_far d n k xs t)
+
+-- a reading serves as its own default
+pub get_d_self : {X : Type 0} (xs : List X) (i : ℕ) (d : X) → slice_index_or xs i d ≡ slice_index_or xs i (slice_index_or xs i d)
+get_d_self [] i d = refl
+get_d_self (x ∷ xs) zero d = refl
+get_d_self (x ∷ xs) (suc i) d = get_d_self xs i d

@@ -1,4 +1,5 @@
 -- Judging and noting where a place is kept as marks, at any depth up to 4,096. What window the marks has to show only what becomes of each mark.
+-- (No proof needs `window_ahead`, `window_old`, `window_again` and `window_fresh` since `judge` is written once for all windows: they stand for whoever reads on.)
 use Rattle.std.specs.Prelude.{◌≡◌, ℕ, ◌-◌, ◌<◌, ◌≤◌, Bool, true, false, ◌&&◌, ◌||◌, ◌⊎◌, ◌==◌, ◌≢◌, refl}
 use Rattle.std.proofs.Math.Path.{sym, ap, fun_ext}
 use Rattle.std.proofs.Common.{◌∙◌, inl, inr, ⊎_elim, arith}

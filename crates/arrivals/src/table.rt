@@ -60,6 +60,7 @@ impl<W: Window> ArrivalBook for Table<W> {
             return;
         };
         if place < PLACES && judge_at(&self.places[place], number) == Judgement::Fresh {
+            // By index and not by `get_mut`, of whose slice nothing is said afterwards.
             let at = &mut self.places[place];
             *at = with_at(*at, number);
         }

@@ -13,7 +13,7 @@ pub(crate) trait Window: Copy {
 
     const DEPTH: u32;
 
-    // what the place has seen, by its newest number and the test of its set
+    // what the place has seen: a newest number, and which numbers are held
     ghost seen: { Self → Seen };
 
     ghost newest: { Self → ℕ };
@@ -36,7 +36,7 @@ pub(crate) trait Window: Copy {
         requires { ahead number.value (newest self) ≡ true }
         ensures { seen result ≡ with_fresh DEPTH (seen self) number.value };
 
-    // The same window with one fresh number more, which is not ahead.
+    // The same window with one fresh number more that is behind its newest.
     fn plus(self, number: Number) -> Self
         requires behind { ahead number.value (newest self) ≡ false }
         requires fresh { is_fresh (judged_number DEPTH (seen self) number.value) ≡ true }

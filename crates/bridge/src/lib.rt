@@ -22,7 +22,8 @@ fn run<B: ArrivalBook + Drop>(places: &[usize], numbers: &[u32], judgements: &mu
 {
     let mut book = B::new();
     let count = places.len().min(numbers.len()).min(judgements.len());
-    // An index and no zip of the three: what is written through an adapter of `iter_mut` no proof can know.
+    // An index and no zip of the three, which C passes as they are: what is written through an adapter of `iter_mut` no proof can know,
+    // and `iter_mut` beside two iterators that are stepped by hand is no plainer.
     for i in 0..count {
         judgements[i] = code_of(judge_and_note(&mut book, places[i], numbers[i]));
     }

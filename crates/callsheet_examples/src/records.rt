@@ -67,9 +67,7 @@ fn the_fields_of_a_record(rt: HostRuntime) -> Result<(), Fail> {
         rest: &octets,
         before: 0,
     };
-    let Ok(Some(first)) = records.next() else {
-        return Err(Fail::new("no record"));
-    };
+    let first = records.next()?.ok_or("no record")?;
     assert_eq!(rt; first.address, [10, 0, 0, 7]);
     assert_eq!(rt; first.port, 1720);
     assert_eq!(rt; first.seconds, 60);

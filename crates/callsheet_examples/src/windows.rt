@@ -27,7 +27,7 @@ fn in_two(heap: Global, first: &[u8], second: &[u8]) -> Result<String, AllocErro
 fn cut_at_every_octet(rt: HostRuntime) -> Result<(), Fail> {
     let octets = callsheet::two_records();
     let expected = sheet_of(rt.alloc(), &octets)?;
-    for at in 0..44usize {
+    for at in 0..=octets.len() {
         let (first, second) = octets.split_at(at);
         let sheet = in_two(rt.alloc(), first, second)?;
         assert_eq!(rt; sheet.as_str(), expected.as_str());

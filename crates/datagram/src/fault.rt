@@ -29,9 +29,13 @@ impl Question {
         ensures { result ≡ layer_of self }
     {
         match self {
+            Question::AtMostMaximum
+            | Question::HoldsHeader
+            | Question::VersionZero
+            | Question::EndsWithLastPayload
+            | Question::AckIsDeserved => Layer::Datagram,
             Question::HoldsPayloadHeader | Question::HoldsPayloadData => Layer::Payload,
             Question::HoldsFixedPart | Question::CountsMeetEnd => Layer::Structure,
-            _ => Layer::Datagram,
         }
     }
 

@@ -1,4 +1,4 @@
-// The types of payload that have a meaning here.
+// The types of payload that have a meaning here. (A type is called `kind` in code, where `type` is a word of the language.)
 ghost use Rattle.std.specs.Prelude.{◌≡◌};
 ghost use Rattle.datagram.specs.Kinds.{number_of, deserving_kind, kind_of};
 

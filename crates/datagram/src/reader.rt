@@ -29,7 +29,8 @@ impl<'d> Reader<'d> {
         }
     }
 
-    // The next payload; `None` where the datagram ends with its last one. A fault leaves the place as it was.
+    // The next payload; `None` where the datagram ends with its last one. A fault leaves the place as it was, so this is no `Iterator`: a
+    // `for` would meet it again and never end.
     pub(crate) fn next(&mut self) -> Result<Option<Payload<'d>>, Fault>
         ensures gives { map_ok (option_map payload_says) result ≡ next_at (place_says self.old) }
         ensures moves { place_says self.new ≡ place_after (place_says self.old) }

@@ -21,7 +21,7 @@ pub enum Ticked {
     Idle,
 }
 
-// What a neighbour said of an outstanding message.
+// What a neighbour said of an outstanding message. No `Result`: a rejection is an outcome here, and no error of this endpoint.
 #[derive(Clone, Copy)]
 pub enum Outcome {
     Acknowledged,

@@ -26,7 +26,7 @@ pub enum Refusal {
     Unreadable(Fault),
 }
 
-// Where a refusal arose: at the endpoint itself, or at that part of a datagram.
+// Where a refusal arose: at the endpoint itself, or at that part of a datagram. One word each, as they are shown, and no `Option` of a part.
 #[derive(Clone, Copy)]
 pub enum Layer {
     End,

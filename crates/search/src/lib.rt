@@ -19,10 +19,7 @@ impl<K, R: Keyed<K>> Keyed<K> for Option<R> {
     ghost under = { some_under R.Keyed.under };
 
     fn is_under(&self, key: &K) -> bool {
-        match self {
-            Some(record) => record.is_under(key),
-            None => false,
-        }
+        self.as_ref().is_some_and(|record| record.is_under(key))
     }
 }
 

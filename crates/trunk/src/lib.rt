@@ -14,6 +14,7 @@ pub use call::{Call, Turn};
 pub use log::{Answer, Arrival, Entry, Error, HandedOut};
 pub use setting::{End, Setting, Side};
 
+// Written out and not taken from the endpoint's timers, so that the law's two numbers are read where it stands.
 const TRIES: u8 = 4;
 
 const GAP: u64 = 3000;

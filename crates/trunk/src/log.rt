@@ -27,7 +27,7 @@ pub enum Answer {
     Arrived(Arrival),
 }
 
-// `wrote` is the datagram that the call wrote, or empty. `between` says that the call was accepted and between the two ends: a send or a
+// `wrote` is the datagram that the call wrote, or empty, as no datagram is. `between` says that the call was accepted and between the two ends: a send or a
 // tick of the place at which the end has the other one, or an arrival under the other's address.
 #[derive(Drop)]
 pub struct Entry {

@@ -23,7 +23,8 @@ const LONGEST_DATA: usize = 255;
 // Number, reason and length of an entry.
 const ENTRY_HEADER: usize = 6;
 
-// An element is written as octets, its values lie within their fields or not, and a list of elements is the content of a payload.
+// How an element is written, when its values lie within their fields, and of which content a list of them is. The law says that what is
+// written of a list is the data of that content.
 pub(crate) trait Element {
     ghost its_kind: { Kind };
 

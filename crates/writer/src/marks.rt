@@ -16,8 +16,8 @@ pub const LARGEST_NUMBER: u32 = 0xFF_FFFF;
 
 // The mark counts the octets that are filled, and is 0 until a datagram is opened; the count counts its payloads.
 // How much room there is belongs to the buffer and not to the marks, so each question is given it.
-// An Ack is asked for or not, and some payload deserves it or none. `closed` is a flag and no type of its own: a call in the wrong
-// state is refused at the mark, and not ruled out.
+// An Ack is asked for or not, and some payload deserves it or none. `closed` is a flag beside them: an enum of three
+// states would hold the same mark and count in two of them.
 #[derive(Clone, Copy)]
 pub struct Marks {
     mark: usize,
@@ -90,37 +90,30 @@ impl Marks {
             && HEADER <= room - octets - self.mark
     }
 
+    // A question: where it does not hold, that is found.
+    pub(crate) fn ask(&self, holds: bool, found: Found) -> Result<(), Refusal>
+        ensures { result ≡ unless (first_of holds (refused_at self.now.mark found) None) tt }
+    {
+        if holds {
+            Ok(())
+        } else {
+            Err(self.refusal(found))
+        }
+    }
+
     // Refuses a header with that number, if something is against it.
     pub(crate) fn check_opening(&self, room: usize, number: u32) -> Result<(), Refusal>
         ensures { result ≡ unless (against_opening self.now room number) tt }
     {
-        if self.mark != 0 || room < HEADER {
-            return Err(self.refusal(Found::NoRoom));
-        }
-        if number > LARGEST_NUMBER {
-            return Err(self.refusal(Found::OutsideField));
-        }
-        Ok(())
+        self.ask(self.mark == 0 && room >= HEADER, Found::NoRoom)?;
+        self.ask(number <= LARGEST_NUMBER, Found::OutsideField)
     }
 
     // Refuses a payload with so many octets of data, if it has no room.
     pub(crate) fn check_room(&self, room: usize, octets: usize) -> Result<(), Refusal>
         ensures { result ≡ unless (first_of (fits self.now room octets) (refused_at self.now.mark Found.NoRoom) None) tt }
     {
-        if !self.fits(room, octets) {
-            return Err(self.refusal(Found::NoRoom));
-        }
-        Ok(())
-    }
-
-    // Refuses a payload whose values do not lie within their fields.
-    pub(crate) fn check_within(&self, within: bool) -> Result<(), Refusal>
-        ensures { result ≡ unless (first_of within (refused_at self.now.mark Found.OutsideField) None) tt }
-    {
-        if !within {
-            return Err(self.refusal(Found::OutsideField));
-        }
-        Ok(())
+        self.ask(self.fits(room, octets), Found::NoRoom)
     }
 
     // Refuses a payload of a type that is written, if something is against it.
@@ -133,7 +126,7 @@ impl Marks {
         ensures { result ≡ unless (against_data self.now room octets within) tt }
     {
         self.check_room(room, octets)?;
-        self.check_within(within)
+        self.ask(within, Found::OutsideField)
     }
 
     fn is_closable(&self, room: usize) -> bool
@@ -146,10 +139,7 @@ impl Marks {
     pub(crate) fn check_closing(&self, room: usize) -> Result<(), Refusal>
         ensures { result ≡ unless (against_closing self.now room) tt }
     {
-        if !self.is_closable(room) {
-            return Err(self.refusal(Found::NotClosable));
-        }
-        Ok(())
+        self.ask(self.is_closable(room), Found::NotClosable)
     }
 
     pub(crate) fn close(&mut self)
@@ -213,6 +203,7 @@ impl Drop for Begun<'_> {
         if let Some(before) = self.before {
             *self.marks = before;
         }
+        // An end has to take its value apart.
         let Begun {
             buffer: _,
             marks: _,

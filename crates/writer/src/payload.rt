@@ -21,20 +21,20 @@ pub(crate) fn write_pieces(
     marks: &mut Marks,
     kind: Kind,
     crv: u16,
-    a: &[u8],
-    b: &[u8],
-    c: &[u8],
+    first: &[u8],
+    second: &[u8],
+    third: &[u8],
 )
-    requires { fits marks.old (min 1024 (length buffer.old)) (length a.now + (length b.now + length c.now)) ≡ true }
-    ensures { Grows buffer.old marks.old (number_of kind) (payload_octets (number_of kind) crv (a.now ++ (b.now ++ c.now))) buffer.new marks.new }
+    requires { fits marks.old (min 1024 (length buffer.old)) (length first.now + (length second.now + length third.now)) ≡ true }
+    ensures { Grows buffer.old marks.old (number_of kind) (payload_octets (number_of kind) crv (first.now ++ (second.now ++ third.now))) buffer.new marks.new }
 {
-    let octets = a.len() + b.len() + c.len();
+    let octets = first.len() + second.len() + third.len();
     let head = payload_header(kind, crv, octets as u16);
     let mut payload = Begun::new(buffer, marks);
     payload.put(&head);
-    payload.put(a);
-    payload.put(b);
-    payload.put(c);
+    payload.put(first);
+    payload.put(second);
+    payload.put(third);
     payload.finish(kind.deserves_ack());
 }
 
@@ -57,6 +57,7 @@ pub(crate) fn write_counted<E: Element>(
     let count = elements.len() as u8;
     let mut payload = Begun::new(buffer, marks);
     payload.put(&head);
+    // The reserved bit beside the count is zero.
     payload.put(&[2 * count]);
     put_all(&mut payload, elements);
     payload.finish(kind.deserves_ack());

@@ -20,14 +20,14 @@ impl Found {
     }
 }
 
-// The layer that refuses: the writer has but one.
+// The layer that refuses, shown as with every other refusal: the writer has but one.
 #[derive(Clone, Copy, Debug, PartialEq, Eq)]
 pub enum Layer {
     Writer,
 }
 
-// A refused call changed nothing. The offset is the writer's mark. A type of its own beside the reader's `Fault`, so that what only one
-// of them can find is not told of the other.
+// A refused call changed nothing. The offset is the writer's mark. A type of its own beside the reader's `Fault`: other names of
+// parts and other values, and one generic type for both would say less at each.
 #[derive(Clone, Copy, Debug, PartialEq, Eq)]
 pub struct Refusal {
     pub found: Found,

@@ -5,7 +5,7 @@ ghost use Rattle.writer.specs.Values.{is_field16};
 
 use datagram::MAXIMUM;
 
-// More than any datagram holds: a size is counted no further.
+// More than any datagram holds: a size is counted no further. (What is cast to a narrower field was asked for its limit before.)
 const OVER: usize = MAXIMUM + 1;
 
 // The length of a cookie has fifteen bits, that of an OID sixteen.

@@ -9,13 +9,7 @@ use datagram::{Content, Kind};
 fn is_reserved_clear(kind: Kind, data: &[u8]) -> bool
     ensures { result ≡ reserved_clear (number_of kind) «data».now }
 {
-    if kind.deserves_ack() {
-        return true;
-    }
-    let &[count, ..] = data else {
-        return true;
-    };
-    count & 1 == 0
+    !matches!(kind, Kind::Ack | Kind::Nack) || data.first().is_none_or(|count| count & 1 == 0)
 }
 
 // Whether the reader takes the data for a structure of that kind, and its reserved bit is zero.

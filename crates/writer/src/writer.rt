@@ -19,7 +19,7 @@ use datagram::{Alive, Entry, Kind, MAXIMUM, NonStandard};
 
 // One datagram in the making: open it, add payloads, close it. A call that is refused changes nothing.
 // The buffer is the caller's, with its mark beside it, since nothing here is on a heap. That it stays the caller's is said by each call
-// (`same`): it is a fact of two states, which no type of one can say.
+// (`same`): a fact of two states, which no type of one can say, and not a part of `Does`, which speaks of what is written.
 #[derive(Drop)]
 pub struct Writer<'b> {
     buffer: &'b mut [u8],
@@ -137,7 +137,8 @@ impl<'b> Writer<'b> {
         let Ok(kind) = Kind::try_from(kind) else {
             return Err(self.marks.refusal(Found::TypeNotWritten));
         };
-        self.marks.check_within(is_well_formed(kind, data))?;
+        self.marks
+            .ask(is_well_formed(kind, data), Found::OutsideField)?;
         let Writer { buffer, marks } = self;
         write_pieces(buffer, marks, kind, crv, &[], &[], data);
         Ok(())

@@ -30,8 +30,7 @@ fn write(rt: &impl Abort, out: &mut [u8]) -> Result<usize, Fail> {
     writer.add_alive(0, ALIVE)?;
     assert!(rt; is_refused(writer.add_call_message(4, &LONG_SETUP), 30, 36));
     writer.add_call_message(0x8003, &SETUP_THREE)?;
-    let size = writer.close()?;
-    Ok(size)
+    Ok(writer.close()?)
 }
 
 fn is_setup(payload: Option<Payload>, crv: u16, setup: &[u8]) -> bool {
@@ -62,9 +61,7 @@ fn is_alive(payload: Option<Payload>) -> bool {
 }
 
 fn check_read(rt: &impl Abort, octets: &[u8]) -> Result<(), Fail> {
-    let Ok(datagram) = Datagram::read(octets) else {
-        return Err(Fail::new("not read"));
-    };
+    let datagram = Datagram::read(octets)?;
     assert_eq!(rt; datagram.number, 7);
     assert!(rt; datagram.wants_ack);
     let mut payloads = datagram.payloads;
@@ -81,9 +78,7 @@ fn each_call_keeps_its_message(rt: HostRuntime) -> Result<(), Fail> {
     let mut out = [FILLER; 50];
     let size = write(&rt, &mut out)?;
     assert_eq!(rt; size, 46);
-    let Some((octets, behind)) = out.split_at_checked(46) else {
-        return Err(Fail::new("longer than the buffer"));
-    };
+    let (octets, behind) = out.split_at_checked(46).ok_or("longer than the buffer")?;
     assert!(rt; is_filler(behind));
     check_read(&rt, octets)
 }

@@ -25,6 +25,7 @@ fn put(mut slots: [Option<Number>; SLOTS], number: Number) -> [Option<Number>; S
     requires { taken slots < 24 }
     ensures { (k : ℕ) → times k result ≡ (if nat_eq number.value k then 1 else 0) + times k slots }
 {
+    // The index and not the slot by `iter_mut`, of whose array nothing is said afterwards.
     if let Some(i) = slots.iter().position(Option::is_none) {
         slots[i] = Some(number);
     }

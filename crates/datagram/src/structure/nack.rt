@@ -45,7 +45,7 @@ impl<'d> Nack<'d> {
             .map(|entry| entry.reason)
     }
 
-    // The next entry, if one is left and whole.
+    // The next entry, if one is left and whole. `next` by another name, as its contract tells of the octets that are left too.
     fn take_entry(&mut self) -> Option<Entry<'d>>
         ensures gives { option_map entry_says result ≡ first_entry (entries_in self.old) }
         ensures moves { entries_in self.new ≡ after_first (entries_in self.old) }

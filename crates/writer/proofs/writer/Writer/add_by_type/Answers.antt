@@ -5,5 +5,5 @@ use Rattle.writer.proofs.writer.Writer.add_by_type.Goals as goal
 pub returns-clause-does : goal.returns-clause-does
 returns-clause-does c = search (rules, length-append)
 
-pub returns-in_err-check_within-clause-does : goal.returns-in_err-check_within-clause-does
-returns-in_err-check_within-clause-does c = search (rules, length-append)
+pub returns-in_err-ask-clause-does : goal.returns-in_err-ask-clause-does
+returns-in_err-ask-clause-does c = search (rules, length-append)
