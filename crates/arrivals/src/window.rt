@@ -36,7 +36,8 @@ pub(crate) trait Window: Copy {
         requires { ahead number.value (newest self) ≡ true }
         ensures { seen result ≡ with_fresh DEPTH (seen self) number.value };
 
-    // The same window with one fresh number more that is behind its newest.
+    // The same window with one fresh number more that is behind its newest. That it is fresh is a fact of window and number together, which
+    // no type of one can say.
     fn plus(self, number: Number) -> Self
         requires behind { ahead number.value (newest self) ≡ false }
         requires fresh { is_fresh (judged_number DEPTH (seen self) number.value) ≡ true }

@@ -8,7 +8,8 @@ use crate::window::add_window;
 use capture::Records;
 use std::alloc::{AllocError, Global};
 
-// `unread` holds the octets that came and that no record was read from: whoever reads the capture adds to its end.
+// `unread` holds the octets that came and that no record was read from: whoever reads the capture adds to its end, so it is no part of a
+// model.
 #[derive(Drop)]
 pub struct Sheet {
     pub unread: Vec<u8>,

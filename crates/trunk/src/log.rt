@@ -11,6 +11,8 @@ pub struct HandedOut {
     pub data: Vec<u8>,
 }
 
+// `fresh` stands beside what only a fresh arrival has, as in the record of the definitions: a reply can come of either, so an enum of both
+// would be no plainer.
 #[derive(Drop)]
 pub struct Arrival {
     pub fresh: bool,
@@ -27,8 +29,9 @@ pub enum Answer {
     Arrived(Arrival),
 }
 
-// `wrote` is the datagram that the call wrote, or empty, as no datagram is. `between` says that the call was accepted and between the two ends: a send or a
-// tick of the place at which the end has the other one, or an arrival under the other's address.
+// `wrote` is the datagram that the call wrote, or empty, as no datagram is. `between` says that the call was accepted and between the two
+// ends: a send or a tick of the place at which the end has the other one, or an arrival under the other's address. It is a part of its own,
+// as the answer alone does not tell it.
 #[derive(Drop)]
 pub struct Entry {
     pub side: Side,

@@ -19,7 +19,8 @@ use datagram::{Alive, Entry, Kind, MAXIMUM, NonStandard};
 
 // One datagram in the making: open it, add payloads, close it. A call that is refused changes nothing.
 // The buffer is the caller's, with its mark beside it, since nothing here is on a heap. That it stays the caller's is said by each call
-// (`same`): a fact of two states, which no type of one can say, and not a part of `Does`, which speaks of what is written.
+// (`same`): a fact of two states, which no type of one can say, and no model either; nor is it a part of `Does`,
+// which speaks of what is written.
 #[derive(Drop)]
 pub struct Writer<'b> {
     buffer: &'b mut [u8],

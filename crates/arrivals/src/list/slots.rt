@@ -25,7 +25,7 @@ fn put(mut slots: [Option<Number>; SLOTS], number: Number) -> [Option<Number>; S
     requires { taken slots < 24 }
     ensures { (k : ℕ) → times k result ≡ (if nat_eq number.value k then 1 else 0) + times k slots }
 {
-    // The index and not the slot by `iter_mut`, of whose array nothing is said afterwards.
+    // By its index: a loop over `iter_mut` that stops at the first free slot is no plainer.
     if let Some(i) = slots.iter().position(Option::is_none) {
         slots[i] = Some(number);
     }
@@ -40,7 +40,7 @@ fn keep_near(slot: Option<Number>, newest: Number) -> Option<Number>
 }
 
 // Forgets the numbers that are behind `newest` by the depth or more.
-// A loop and no `slots.map(..)`: with an array's `map` a list book's note and judge took 2.4 times as long.
+// A loop and no `slots.map(..)`, which is no plainer, and with which a list book's note and judge took 2.4 times as long.
 fn forget_far(mut slots: [Option<Number>; SLOTS], newest: Number) -> [Option<Number>; SLOTS]
     ensures { result ≡ map (keep_near 24 newest.value) slots }
 {
