@@ -62,20 +62,22 @@ def lines_with(pattern):
     return rows
 
 
+def past(text, at, pair):
+    """Where the bracket that opens at `at` has closed."""
+    depth = 0
+    while True:
+        depth += {pair[0]: 1, pair[1]: -1}.get(text[at], 0)
+        at += 1
+        if depth == 0:
+            return at
+
+
 def functions():
     """Each function as (file, name, parameters, contract, body)."""
     for file, text in sources():
         for head in re.finditer(r'\bfn (\w+)', text):
-            at = head.end()
-            depth = 0
-            while text[at] != '(':
-                at += 1
-            start = at
-            while True:
-                depth += {'(': 1, ')': -1}.get(text[at], 0)
-                at += 1
-                if depth == 0:
-                    break
+            start = text.index('(', head.end())
+            at = past(text, start, '()')
             parameters = text[start + 1:at - 1]
             lines = text[at:].split('\n')
             contract = [l for l in lines[:12] if re.match(r'\s*(requires|ensures)\b', l)]
@@ -84,14 +86,7 @@ def functions():
             body = ''
             if opening and not (semicolon and semicolon.start() < opening.start()):
                 i = at + opening.end() - 1
-                depth = 0
-                j = i
-                while True:
-                    depth += {'{': 1, '}': -1}.get(text[j], 0)
-                    j += 1
-                    if depth == 0:
-                        break
-                body = text[i:j]
+                body = text[i:past(text, i, '{}')]
                 contract = [l for l in text[at:i].split('\n') if re.match(r'\s*(requires|ensures)\b', l)]
             else:
                 contract = [l for l in text[at:at + (semicolon.start() if semicolon else 0)].split('\n') if re.match(r'\s*(requires|ensures)\b', l)]
