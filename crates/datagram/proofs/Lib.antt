@@ -3,3 +3,4 @@ pub mod Taking
 pub mod Fields
 pub mod Places
 pub mod Accepted
+pub mod Bodies

@@ -28,15 +28,15 @@ next_moves d at n p e = ap (moved (place d at n)) e
 pub next_stays : (d : List ℕ) (at n : ℕ) (f : Fault) → Err f ≡ next_at (place d at n) → place d at n ≡ place_after (place d at n)
 next_stays d at n f e = ap (moved (place d at n)) e
 
-some_back : (p : Payload) (r : Result Payload Fault) → Ok (Some p) ≡ map_ok Some r → r ≡ Ok p
+pub some_back : (p : Payload) (r : Result Payload Fault) → Ok (Some p) ≡ map_ok Some r → r ≡ Ok p
 some_back p (Ok q) e = cc
 some_back p (Err f) e = let z : ◌≡◌ {A = ℕ} 0 1 = cc in absurd (omega arith)
 
-err_back : (f : Fault) (r : Result Payload Fault) → Err f ≡ map_ok Some r → r ≡ Err f
+pub err_back : (f : Fault) (r : Result Payload Fault) → Err f ≡ map_ok Some r → r ≡ Err f
 err_back f (Ok q) e = let z : ◌≡◌ {A = ℕ} 0 1 = cc in absurd (omega arith)
 err_back f (Err g) e = cc
 
-none_back : (r : Result Payload Fault) → Ok None ≡ map_ok Some r → ⊥
+pub none_back : (r : Result Payload Fault) → Ok None ≡ map_ok Some r → ⊥
 none_back (Ok q) e = let z : ◌≡◌ {A = ℕ} 0 1 = cc in omega arith
 none_back (Err g) e = let z : ◌≡◌ {A = ℕ} 0 1 = cc in omega arith
 

@@ -5,6 +5,7 @@ pub mod Kinds
 pub mod Structures
 pub mod Payloads
 pub mod Datagrams
+pub mod Bodies
 pub mod Laws
 pub mod Examples
 pub mod Places

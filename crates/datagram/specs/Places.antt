@@ -1,8 +1,9 @@
 -- Reading payload by payload and entry by entry: the steps that the code takes, by the definitions of the whole. Assumes nothing.
-use Rattle.std.specs.Prelude.{ℕ, zero, suc, ◌-◌, Bool, cond, List, [], ◌∷◌, length, drop, Some, None, Ok, Err, Option, Result, nat_le}
+use Rattle.std.specs.Prelude.{ℕ, zero, suc, ◌+◌, ◌-◌, Bool, cond, List, [], ◌∷◌, length, drop, Some, None, Ok, Err, Option, Result, nat_le}
 use Rattle.datagram.specs.declared.fault.Question.TheVariants.{EndsWithLastPayload}
 use Rattle.datagram.specs.declared.fault.Layer.TheVariants as layer
 use Rattle.datagram.specs.declared.fault.Fault.{Fault}
+use Rattle.datagram.specs.Bodies.{body_from}
 use Rattle.datagram.specs.Datagrams.{payloads_from}
 use Rattle.datagram.specs.Faults.{no}
 use Rattle.datagram.specs.Layout.{entry_end}
@@ -52,6 +53,40 @@ sound_from (suc n) d at = unless_fault (payload_at (drop at d) at) (λ p. p ∷ 
 
 abbrev pub sound_ahead : Place → List Payload
 sound_ahead p = sound_from p.left p.octets p.from
+
+-- a body that was read up to a payload, from that payload's first octet on, with that octet's offset
+pub record Rest : Type 0 where
+  pub octets : List ℕ
+  pub from : ℕ
+
+-- the next payload, or none at the body's end
+abbrev pub next_of : List ℕ → ℕ → Result (Option Payload) Fault
+next_of [] at = Ok None
+next_of (x ∷ b) at = map_ok Some (payload_at (x ∷ b) at)
+
+abbrev pub next_in : Rest → Result (Option Payload) Fault
+next_in r = next_of r.octets r.from
+
+abbrev pub moved_in : Rest → Result (Option Payload) Fault → Rest
+moved_in r (Ok (Some p)) = record { octets = drop (5 + length p.octets) r.octets; from = past p }
+moved_in r (Ok None) = r
+moved_in r (Err e) = r
+
+abbrev pub rest_after : Rest → Rest
+rest_after r = moved_in r (next_in r)
+
+-- all payloads of the rest, or the first fault
+abbrev pub rest_payloads : Rest → Result (List Payload) Fault
+rest_payloads r = body_from (length r.octets) r.octets r.from
+
+-- the payloads of the rest, as far as there is no fault
+abbrev pub sound_body_from : ℕ → List ℕ → ℕ → List Payload
+sound_body_from zero b at = []
+sound_body_from (suc n) [] at = []
+sound_body_from (suc n) (x ∷ b) at = unless_fault (payload_at (x ∷ b) at) (λ p. p ∷ sound_body_from n (drop (5 + length p.octets) (x ∷ b)) (past p))
+
+abbrev pub sound_rest : Rest → List Payload
+sound_rest r = sound_body_from (length r.octets) r.octets r.from
 
 -- a Nack that is read entry by entry: so many are still to come, in these octets
 pub record Entries : Type 0 where

@@ -1,7 +1,8 @@
 -- What the views of the code say: each names parts of the caller's octets, and stands for a value of the definitions. Assumes nothing.
 -- Functions and no `impl Model`: these types are `Copy`, and a model is not supported for one that has a lifetime.
-use Rattle.std.specs.Prelude.{ℕ, List}
+use Rattle.std.specs.Prelude.{ℕ, ◌+◌, List, drop}
 use Rattle.std.specs.Option.{option_map}
+use Rattle.datagram.specs.declared.body.Body.{Body}
 use Rattle.datagram.specs.declared.content.Content as content
 use Rattle.datagram.specs.declared.content.Content.TheVariants as variant
 use Rattle.datagram.specs.declared.datagram.Datagram as datagram
@@ -15,7 +16,7 @@ use Rattle.datagram.specs.declared.structure.nack.Nack.{Nack}
 use Rattle.datagram.specs.declared.structure.nonstandard.NonStandard as nonstandard
 use Rattle.datagram.specs.Datagrams.{Datagram}
 use Rattle.datagram.specs.Payloads.{Payload}
-use Rattle.datagram.specs.Places.{Place, place, sound_ahead, Entries}
+use Rattle.datagram.specs.Places.{Place, place, sound_ahead, Rest, sound_rest, Entries}
 use Rattle.datagram.specs.Structures.{Alive, Entry, NonStandard, Content, call_message, i_am_alive, ack, nack, non_standard, unsupported, numbers, entries}
 
 abbrev pub alive_says : alive.Alive → Alive
@@ -56,3 +57,10 @@ payloads_say p = sound_ahead (place_says p.reader)
 
 abbrev pub datagram_says : datagram.Datagram → Datagram
 datagram_says g = record { number = g.number; wants_ack = g.wants_ack; payloads = payloads_say g.payloads }
+
+-- offsets in a body count the five octets of the header that it is to stand under
+abbrev pub rest_says : Body → Rest
+rest_says b = record { octets = drop b.at b.octets.now; from = b.at + 5 }
+
+abbrev pub body_says : Body → List Payload
+body_says b = sound_rest (rest_says b)

@@ -1,6 +1,7 @@
 // Reads H.323 Annex E datagrams: a header, then payloads with their structures, as views of the caller's octets.
 #![tactic(auto)]
 
+mod body;
 mod content;
 mod datagram;
 mod example;
@@ -12,6 +13,7 @@ mod payloads;
 mod reader;
 mod structure;
 
+pub use body::Body;
 pub use content::Content;
 pub use datagram::Datagram;
 pub use example::ack_of_five;

@@ -5,7 +5,8 @@ use Rattle.std.proofs.lemmas.Bool.{true≢false, false≢true, ltb-true, leb-tru
 use Rattle.arrivals.proofs.PlaceLaws.{noted_elsewhere}
 use Rattle.datagram.specs.Payloads.{Payload}
 use Rattle.datagram.specs.Structures.{Content}
-use Rattle.writer.specs.Bodies.{body_payloads, headed}
+use Rattle.datagram.specs.Bodies.{body_payloads}
+use Rattle.writer.specs.Bodies.{headed}
 use Rattle.endpoint.specs.declared.answer.Settled.{Settled}
 use Rattle.endpoint.specs.declared.peer.Peer.{Peer}
 use Rattle.endpoint.specs.declared.peer.Role.{Role}

@@ -4,7 +4,8 @@ use Rattle.datagram.specs.declared.fault.Fault.{Fault}
 use Rattle.datagram.specs.Layout.{octet, odd}
 use Rattle.datagram.specs.Payloads.{Payload}
 use Rattle.datagram.specs.Structures.{Content, call_message, i_am_alive, ack, nack, non_standard, unsupported}
-use Rattle.writer.specs.Bodies.{body_payloads, headed}
+use Rattle.datagram.specs.Bodies.{body_payloads}
+use Rattle.writer.specs.Bodies.{headed}
 use Rattle.writer.specs.Values.{every}
 use Rattle.endpoint.specs.declared.answer.Sent.{Sent}
 use Rattle.endpoint.specs.declared.refusal.Refusal.TheVariants.{NoSuchPlace, TimeTooHigh, ClockRanBack, PlaceVacant, BufferTooShort, BodySize, NotOnlyMessages, StillOutstanding, NumbersSpent}

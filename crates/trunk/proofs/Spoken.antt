@@ -13,7 +13,8 @@ use Rattle.datagram.specs.Payloads.{Payload, past, payload_at}
 use Rattle.datagram.specs.Results.{map_ok, and_then, ask}
 use Rattle.datagram.specs.Structures.{Alive, Content, call_message, i_am_alive, ack, nack, non_standard, unsupported, content_of, alive_of, ack_of, nack_of, non_standard_of, cookie_of, too_short, miscounts}
 use Rattle.datagram.proofs.Passing.{passed, bound, mapped_back}
-use Rattle.writer.specs.Bodies.{body_payloads, headed, Settling, acknowledging, rejecting, nothing, settled, living, replied, reply, calling, under_no_call}
+use Rattle.datagram.specs.Bodies.{body_payloads}
+use Rattle.writer.specs.Bodies.{headed, Settling, acknowledging, rejecting, nothing, settled, living, replied, reply, calling, under_no_call}
 use Rattle.writer.specs.Values.{datagram, written, placed, placed_from, part_of, every, content_within, cookie_within}
 use Rattle.writer.proofs.Trips.{round_trip}
 use Rattle.endpoint.specs.Arrives.{handed_out}

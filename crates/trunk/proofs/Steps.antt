@@ -17,7 +17,8 @@ use Rattle.endpoint.proofs.Asked.{AllYes, by_questions, was_read}
 use Rattle.endpoint.proofs.Moving.{Moves}
 use Rattle.endpoint.proofs.Peers.{same_peer_lem, peer_same}
 use Rattle.endpoint.proofs.Doing.{enrol_moves, send_moves, tick_moves, arrive_moves}
-use Rattle.writer.specs.Bodies.{body_payloads, headed, calling, reply}
+use Rattle.datagram.specs.Bodies.{body_payloads}
+use Rattle.writer.specs.Bodies.{headed, calling, reply}
 use Rattle.writer.specs.Values.{written, every}
 use Rattle.datagram.specs.Datagrams.{Datagram, read}
 use Rattle.datagram.specs.Structures.{Content}

@@ -4,7 +4,7 @@ use Rattle.datagram.specs.declared.fault.Fault.{Fault}
 use Rattle.datagram.specs.Payloads.{Payload}
 use Rattle.datagram.specs.Results.{map_ok}
 use Rattle.datagram.specs.Structures.{type_of}
-use Rattle.writer.specs.Bodies.{body_payloads}
+use Rattle.datagram.specs.Bodies.{body_payloads}
 
 abbrev pub Octets : Type 0
 Octets = List ℕ

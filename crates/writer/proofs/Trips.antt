@@ -1,29 +1,19 @@
 -- A body under a header reads as the body does, and what was written reads back. Assumes nothing.
-use Rattle.std.proofs.Common.{◌≡◌, ℕ, zero, suc, ◌+◌, ◌-◌, ◌<◌, ◌≤◌, Bool, true, false, not, ◌||◌, leb, List, [], ◌∷◌, ◌++◌, map, length, drop, Ok, Result, sym, refl, ap, ◌∙◌, subst, arith}
-use Rattle.std.proofs.lemmas.List.{length-append, length-drop, length-map, length-take-le, drop-drop, drop_at}
-use Rattle.std.proofs.lemmas.Bool.{le-leb, leb-true}
+use Rattle.std.proofs.Common.{◌≡◌, ℕ, zero, suc, ◌+◌, ◌-◌, ◌<◌, ◌≤◌, Bool, true, false, not, ◌||◌, List, [], ◌∷◌, ◌++◌, map, length, drop, Ok, Result, refl, ap, ◌∙◌, subst, arith}
+use Rattle.std.proofs.lemmas.List.{length-append, length-drop, length-map, drop-drop, drop_at}
+use Rattle.std.proofs.lemmas.Bool.{le-leb}
 use Rattle.datagram.specs.declared.fault.Fault.{Fault}
 use Rattle.datagram.specs.declared.header.Header.{Header}
 use Rattle.datagram.specs.Datagrams.{header_of, payloads_from, some_deserves, datagram_of, read}
-use Rattle.datagram.specs.Layout.{header_octets, length_field, type_field, payload_data}
+use Rattle.datagram.specs.Layout.{header_octets}
 use Rattle.datagram.specs.Payloads.{Payload, past, payload_at}
 use Rattle.datagram.specs.Results.{map_ok, and_then, ask}
-use Rattle.datagram.specs.Structures.{content_of}
-use Rattle.datagram.proofs.Passing.{passed, bound, mapped_back}
-use Rattle.writer.specs.Bodies.{body_from, body_payloads, how_many, headed, HeaderAndBodyRead, BodyIsNotEmpty, Readable, AllOf, BodyReadsBack, WrittenReadsBack, ReplyReadsBack, CallForLifeReadsBack, RoundTrip, under_no_call, replied, calling}
+use Rattle.datagram.proofs.Bodies.{payload_lies}
+use Rattle.datagram.proofs.Passing.{bound, mapped_back}
+use Rattle.datagram.specs.Bodies.{body_from, body_payloads}
+use Rattle.writer.specs.Bodies.{how_many, headed, HeaderAndBodyRead, BodyIsNotEmpty, Readable, AllOf, BodyReadsBack, WrittenReadsBack, ReplyReadsBack, CallForLifeReadsBack, RoundTrip, under_no_call, replied, calling}
 use Rattle.writer.specs.Values.{Item, Value, Part, part_of, part_octets, body_octets, datagram_octets, written, datagram, placed_from, placed, item_of, value_of, InRange}
 use Rattle.writer.proofs.Written.{back24, part_back, items_readable, contents_readable}
-
--- a payload that is read stands behind its header, and is whole
-payload_lies : (d : List ℕ) (at : ℕ) (p : Payload) → payload_at d at ≡ Ok p → (p.offset ≡ at + 5) × (5 + length p.octets ≤ length d)
-payload_lies d at p e =
-    let first = passed (leb 5 (length d)) _ _ p e in
-    let second = passed (leb (5 + length_field d) (length d)) _ _ p first.1 in
-    let m = mapped_back _ (content_of (type_field d) (payload_data d) (at + 5)) p second.1 in
-    let whole = leb-true _ _ second.0 in
-    let fits : length_field d ≤ length (drop 5 d) = omega (arith, length-drop 5 d) in
-    let size : length p.octets ≡ length_field d = sym (ap (λ x. length x.octets) m.2) ∙ length-take-le (length_field d) (drop 5 d) fits in
-    (sym (ap (λ x. x.offset) m.2), omega arith)
 
 -- nothing is left of the datagram
 payloads_end : (d : List ℕ) (at : ℕ) (ps : List Payload) → length (drop at d) ≤ 0 → [] ≡ ps → payloads_from (length ps) d at ≡ Ok ps

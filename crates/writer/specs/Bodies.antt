@@ -1,25 +1,13 @@
--- A body: payloads up to its end, and what it says under a header. What was written reads as what was to be written. Assumes nothing.
-use Rattle.std.specs.Prelude.{◌≡◌, ℕ, zero, suc, ◌+◌, ◌-◌, ◌<◌, ◌≤◌, Bool, true, false, List, [], ◌∷◌, ◌++◌, map, length, drop, None, Ok, Err, Option, Result, ◌≢◌, nat_le}
-use Rattle.datagram.specs.declared.fault.Question.TheVariants.{AtMostMaximum}
-use Rattle.datagram.specs.declared.fault.Layer.TheVariants as layer
+-- What a body says under a header. What was written reads as what was to be written. Assumes nothing.
+use Rattle.std.specs.Prelude.{◌≡◌, ℕ, ◌-◌, ◌<◌, ◌≤◌, Bool, true, false, List, [], ◌∷◌, ◌++◌, map, length, None, Ok, Err, Option, Result, ◌≢◌}
 use Rattle.datagram.specs.declared.fault.Fault.{Fault}
-use Rattle.datagram.specs.Faults.{no}
+use Rattle.datagram.specs.Bodies.{body_payloads}
 use Rattle.datagram.specs.Datagrams.{some_deserves, read}
 use Rattle.datagram.specs.Layout.{header_octets}
-use Rattle.datagram.specs.Payloads.{Payload, past, payload_at}
-use Rattle.datagram.specs.Results.{map_ok, and_then, ask}
+use Rattle.datagram.specs.Payloads.{Payload}
+use Rattle.datagram.specs.Results.{map_ok}
 use Rattle.datagram.specs.Structures.{Content, i_am_alive, ack, nack, type_of, content_of}
 use Rattle.writer.specs.Values.{Item, Value, Part, body_octets, written, datagram, placed_from, placed, value_of, every, content_within, InRange}
-
--- payloads from an offset on until nothing is left, at most so many
-abbrev pub body_from : ℕ → List ℕ → ℕ → Result (List Payload) Fault
-body_from zero b at = Ok []
-body_from (suc n) [] at = Ok []
-body_from (suc n) (x ∷ b) at = and_then (payload_at (x ∷ b) at) (λ p. map_ok (λ ps. p ∷ ps) (body_from n (drop (5 + length p.octets) (x ∷ b)) (past p)))
-
--- the payloads of a body, or its first fault, with offsets counted from the header's first octet
-abbrev pub body_payloads : List ℕ → Result (List Payload) Fault
-body_payloads b = body_from (length b) b 5
 
 abbrev pub how_many : Result (List Payload) Fault → ℕ
 how_many (Ok ps) = length ps
@@ -100,7 +88,3 @@ pub record RoundTrip : Type 0 where
   pub datagram : WrittenReadsBack
   pub reply : ReplyReadsBack
   pub call_for_life : CallForLifeReadsBack
-
--- a body, read: with its header it must not be longer than a datagram
-abbrev pub read_body : List ℕ → Result (List Payload) Fault
-read_body b = ask (nat_le (5 + length b) 1024) (no AtMostMaximum layer.Datagram 1024) (body_payloads b)
