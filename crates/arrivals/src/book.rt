@@ -29,4 +29,6 @@ pub trait ArrivalBook {
 
     fn note(&mut self, place: usize, number: u32)
         ensures { seen self.new ≡ noted depth (seen self.old) place number };
+
+    ghost bounded: { (1 ≤ depth) × (depth ≤ 4096) };
 }

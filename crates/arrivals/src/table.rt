@@ -42,6 +42,8 @@ impl<W: Window> ArrivalBook for Table<W> {
 
     ghost seen = { λ b place. place_seen W.Window.seen (slice_index_or b.places place None) };
 
+    ghost bounded = { W.Window.deep };
+
     fn new() -> Table<W> {
         Table {
             places: [None; PLACES],

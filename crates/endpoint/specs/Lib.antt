@@ -2,11 +2,15 @@ pub mod Refusals
 pub mod Ends
 pub mod Timing
 pub mod Steps
+pub mod Asking
 pub mod Enrols
 pub mod Sends
 pub mod Ticks
 pub mod Replies
 pub mod Arrives
 pub mod Calls
+pub mod Parts
+pub mod Views
+pub mod PlaceTicks
 pub mod Laws
 pub mod Examples

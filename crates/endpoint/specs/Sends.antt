@@ -68,6 +68,10 @@ abbrev pub awaiting : (number time : ℕ) → List ℕ → Site → Site
 awaiting number time d vacant = vacant
 awaiting number time d (held n) = with_outstanding (Some (sent_once (timers_of n) number time d)) (held n)
 
+-- an end that keeps the message d at a place, and nothing else changed
+abbrev pub awaits : End → (place time number : ℕ) → List ℕ → End
+awaits e place time number d = at_time e e.latest (changed e place (awaiting number time d (site_at e place)))
+
 abbrev pub send_places : End → (place time : ℕ) → (wants_ack : Bool) → List ℕ → List Site
 send_places e place time wants_ack d = cond wants_ack (changed e place (awaiting e.next time d (site_at e place))) e.places
 

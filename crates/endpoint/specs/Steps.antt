@@ -48,6 +48,11 @@ pub record Does {A : Type 0} (s : Step A) (r : Result A Refusal) (e' : End) (b b
   pub leaves : e' ≡ s.after
   pub writes : b' ≡ s.wrote ++ drop (length s.wrote) b
 
+-- and of a call that is given no buffer
+pub record Comes {A : Type 0} (s : Step A) (r : Result A Refusal) (e' : End) : Type 0 where
+  pub answers : r ≡ s.answer
+  pub leaves : e' ≡ s.after
+
 -- questions of several calls
 abbrev pub is_place : ℕ → Bool
 is_place place = nat_lt place 32

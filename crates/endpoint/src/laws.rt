@@ -11,7 +11,9 @@ pub const LAST_TIME: u64 = 281_474_976_710_655;
 
 pub const LARGEST_BODY: usize = 507;
 
-const HEADER: usize = 5;
+pub const LARGEST_DATAGRAM: usize = HEADER + LARGEST_BODY;
+
+pub(crate) const HEADER: usize = 5;
 
 const PAYLOAD_HEADER: usize = 5;
 
@@ -46,7 +48,7 @@ pub fn endpoint_limits() -> Limits
         given: NUMBERS / 2,
         last_time: LAST_TIME,
         smallest: HEADER + PAYLOAD_HEADER,
-        largest: HEADER + LARGEST_BODY,
+        largest: LARGEST_DATAGRAM,
         timers: STANDING,
     }
 }

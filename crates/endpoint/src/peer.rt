@@ -1,7 +1,7 @@
 // Whom an endpoint signals with, and who keeps the line alive.
 
 // The pair that a neighbour is known by.
-#[derive(Clone, Copy)]
+#[derive(Clone, Copy, PartialEq, Eq)]
 pub struct Peer {
     pub address: [u8; 4],
     pub port: u16,

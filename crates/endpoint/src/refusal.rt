@@ -1,6 +1,7 @@
 // Why a call was refused.
 ghost use Rattle.std.specs.Prelude.{◌≡◌};
 ghost use Rattle.endpoint.specs.Refusals.{number_of, layer_of_part, layer_of, offset_of};
+ghost use Rattle.endpoint.specs.declared.refusal.Refusal.TheVariants.{Unreadable};
 
 use datagram::Fault;
 
@@ -33,6 +34,14 @@ pub enum Layer {
     Datagram,
     Payload,
     Structure,
+}
+
+impl From<Fault> for Refusal {
+    ghost from_gives = { λ fault refusal. refusal ≡ Unreadable fault };
+
+    fn from(fault: Fault) -> Refusal {
+        Refusal::Unreadable(fault)
+    }
 }
 
 impl From<datagram::Layer> for Layer {

@@ -12,5 +12,7 @@ pub mod Steps
 pub mod Theorem
 pub mod Playing
 pub mod Stepping
+pub mod Entering
+pub mod Running
 pub mod Refuting
 pub mod Rehearsed

@@ -9,6 +9,7 @@ use Rattle.endpoint.specs.Timing.{numbers_left}
 use Rattle.trunk.specs.Acts.{Octets, acknowledged, Side, left, right, sent_again, gave_up, kept_alive, let_be, aside, sends, ticks, arrives, History}
 use Rattle.trunk.specs.Law.{Law}
 use Rattle.trunk.specs.Refuted.{deed, body_with, said, datagram_with}
+use Rattle.trunk.specs.Runs.{turn}
 use Rattle.trunk.specs.Two.{Setting, Sound, Turn, Log, run, newly, Proper, history_of}
 
 -- the left end is 10.0.0.1 and starts at 5, the right end is 10.0.0.2 and starts at the last number
@@ -26,9 +27,6 @@ depth_of right = 24
 
 abbrev pub setting : Setting
 setting = record { peer = peer_of; start = start_of; depth = depth_of; below = numbers_left }
-
-abbrev pub turn : Side → calls.Call → ℕ → Turn
-turn s c from = record { side = s; call = c; from = from }
 
 -- the right end's Acks of number 5, under its first two numbers
 abbrev pub first_ack : Octets

@@ -1,6 +1,7 @@
 -- A list of calls run on two new ends: the log that comes of it, or why one of the calls does not belong. Assumes nothing.
 use Rattle.std.specs.Prelude.{◌≡◌, ℕ, Bool, true, false, cond, not, List, [], ◌∷◌, ◌++◌, map, length, Some, None, Ok, Err, Option, Result, ◌==◌, nat_lt}
 use Rattle.datagram.specs.Results.{map_ok, and_then, ask}
+use Rattle.endpoint.specs.Arrives as Arrives
 use Rattle.endpoint.specs.Calls as calls
 use Rattle.endpoint.specs.Ends.{same_peer}
 use Rattle.endpoint.specs.Timing.{numbers_left}
@@ -11,7 +12,7 @@ use Rattle.trunk.specs.declared.setting.Side.TheVariants.{Left, Right}
 use Rattle.trunk.specs.Acts.{Octets, said_by, Side, left, right, other, same, Act, aside, sends, ticks, arrives, History, wrote}
 use Rattle.trunk.specs.Law.{Law}
 use Rattle.trunk.specs.Two.{Setting, Turn, Entry, Log, World, deed_of, history, turned, newly}
-use Rattle.trunk.specs.Views.{Order, enrol, send, tick, arrive, hear, Ask, Answer, enrolled, sent, ticked, arrived, Report}
+use Rattle.trunk.specs.Views.{Order, enrol, send, tick, arrive, hear, Ask, Arrival, Answer, enrolled, sent, ticked, arrived, Report}
 
 -- the setting that the code is given, over books of these depths, with the standing question 12
 abbrev pub by_side : {X : Type 0} → X → X → Side → X
@@ -45,11 +46,14 @@ is_aside (sends want time body datagram) = false
 is_aside (ticks time x) = false
 is_aside (arrives from fresh handed outcome reply) = false
 
+abbrev pub tell_arrival : Arrives.Arrival → Arrival
+tell_arrival a = record { fresh = a.fresh; handed = map said_by a.payloads; settled = a.settled; reply = a.reply }
+
 abbrev pub tell : calls.Answer → Answer
 tell calls.enrolled = enrolled
 tell (calls.sent x) = sent x
 tell (calls.ticked x) = ticked x
-tell (calls.arrived a) = arrived (record { fresh = a.fresh; handed = map said_by a.payloads; settled = a.settled; reply = a.reply })
+tell (calls.arrived a) = arrived (tell_arrival a)
 
 module _ (σ : Setting) where
   -- a call that is asked for, as a call on an end: what arrives under the other's address is a copy of what the entry named wrote

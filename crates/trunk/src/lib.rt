@@ -8,10 +8,13 @@ ghost use Rattle.trunk.specs.Two.{LogTellsTruly, TwoEndsInTimeKeepTheLaw, TwoEnd
 
 mod call;
 mod log;
+mod party;
+mod runs;
 mod setting;
 
 pub use call::{Call, Turn};
 pub use log::{Answer, Arrival, Entry, Error, HandedOut};
+pub use runs::run;
 pub use setting::{End, Setting, Side};
 
 // Written out and not taken from the endpoint's timers, so that the law's two numbers are read where it stands.
@@ -19,7 +22,7 @@ const TRIES: u8 = 4;
 
 const GAP: u64 = 3000;
 
-// The two numbers in the law, which every contract of this crate is about.
+// The two numbers in the law.
 #[derive(Clone, Copy)]
 pub struct Limits {
     // how often a send may go on the line, and after how many ticks it has its outcome

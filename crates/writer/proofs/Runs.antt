@@ -193,10 +193,10 @@ held_open d n a ps k =
     let f = k.fitting in
     and_from _ _ (le-leb 5 (min d.marks.mark d.room) (omega arith)) (ap not k.unclosed)
 
-opens : (d : Draft) (n : ℕ) (a : Bool) → d.marks ≡ fresh → 5 ≤ d.room → n < 16777216 → open_of d n a ≡ Ok (with_header d n a)
+pub opens : (d : Draft) (n : ℕ) (a : Bool) → d.marks ≡ fresh → 5 ≤ d.room → n < 16777216 → open_of d n a ≡ Ok (with_header d n a)
 opens d n a new room number = rw (new, le-leb 5 d.room room, lt-ltb n 16777216 number) refl
 
-adds : (d : Draft) (n : ℕ) (a : Bool) (ps : List Part) (i : Item) → Holds n a ps d → within i ≡ true → is_written i ≡ true → d.marks.mark + 5 + length (data_of i.content) ≤ d.room
+pub adds : (d : Draft) (n : ℕ) (a : Bool) (ps : List Part) (i : Item) → Holds n a ps d → within i ≡ true → is_written i ≡ true → d.marks.mark + 5 + length (data_of i.content) ≤ d.room
     → add_of d (item i) ≡ Ok (grown d (type_of i.content) (part_octets (part_of i)))
 adds d n a ps i k values type room =
     let m = k.mark in
@@ -223,7 +223,7 @@ asked_well : (a w v : Bool) → (a ≡ true → v ≡ true) → w ≡ v → (not
 asked_well true w v h e = e ∙ h refl
 asked_well false w v h e = refl
 
-closes : (d : Draft) (n : ℕ) (a : Bool) (ps : List Part) → Holds n a ps d → 0 < length ps → (a ≡ true → some_deserves (placed_from 5 ps) ≡ true) → close_of d ≡ Ok (with_count d)
+pub closes : (d : Draft) (n : ℕ) (a : Bool) (ps : List Part) → Holds n a ps d → 0 < length ps → (a ≡ true → some_deserves (placed_from 5 ps) ≡ true) → close_of d ≡ Ok (with_count d)
 closes d n a ps k some deserved =
     let c = k.count in
     let asks : d.marks.asked ≡ true → some_deserves (placed_from 5 ps) ≡ true = λ q. deserved (sym k.asked ∙ q) in

@@ -68,7 +68,7 @@ nack_back : (es : List Entry) (at : ℕ) → nack_of (data_of (nack es)) at ≡ 
 nack_back es at = rw (le-leb 1 (length (data_of (nack es))) (omega arith), half (length es), entries_meet es, entries_back es) refl
 
 -- a cookie that is there is not empty
-cookie_back : (c : Option (List ℕ)) → cookie_within c ≡ true → cookie_of (cookie_octets c) ≡ c
+pub cookie_back : (c : Option (List ℕ)) → cookie_within c ≡ true → cookie_of (cookie_octets c) ≡ c
 cookie_back None h = refl
 cookie_back (Some []) h = let z : ◌≡◌ {A = ℕ} 0 1 = cc in absurd (omega arith)
 cookie_back (Some (x ∷ c)) h = refl
