@@ -1,0 +1,9 @@
+pub mod Pieces
+pub mod Counting
+pub mod Cutting
+pub mod Numbers
+pub mod Pairs
+pub mod Shapes
+pub mod LineByLine
+pub mod CallByCall
+pub mod Running
