@@ -1,2 +1,3 @@
 -- Laws of runs.
 pub mod RunLaws
+pub mod DeliveryLaws

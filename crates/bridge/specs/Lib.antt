@@ -1,2 +1,3 @@
 -- What the exported runs write.
 pub mod Runs
+pub mod Deliveries

@@ -2,7 +2,7 @@
 use Rattle.std.proofs.Common.{◌≡◌, ◌<◌, ◌≤◌, min, length, sym, ap, ◌∙◌, rules}
 use Rattle.bridge.specs.Runs.{code}
 use Rattle.bridge.proofs.RunLaws.{turned, end}
-use Rattle.bridge.proofs.run.Goals as goal
+use Rattle.bridge.proofs.books.run.Goals as goal
 
 pub loop-i-preserved : goal.loop-i-preserved
 loop-i-preserved g c =

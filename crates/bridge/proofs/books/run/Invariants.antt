@@ -2,7 +2,7 @@
 use Rattle.std.proofs.Common.{◌≡◌}
 use Rattle.arrivals.specs.Meaning.{new_book}
 use Rattle.bridge.proofs.RunLaws.{becomes}
-use Rattle.bridge.proofs.run.Given as goal
+use Rattle.bridge.proofs.books.run.Given as goal
 
 abbrev pub invariant-loop-i : goal.invariant-loop-i
 invariant-loop-i g l =
