@@ -105,6 +105,7 @@ lies d at p within e =
         whole = size;
         type = ap (λ x. type_of x.content) (sym is) ∙ type_kept (type_field q) (payload_data q) (at + 5) m.0 m.1;
         crv = sym (ap (λ x. x.crv) is);
+        content = ap (λ x. content_of (type_field q) x p.offset) octets ∙ ap (content_of (type_field q) (payload_data q)) offset ∙ m.1 ∙ ap (λ x. Ok x.content) is;
       },
       omega arith,
     )

@@ -3,7 +3,7 @@ use Rattle.std.specs.Prelude.{◌≡◌, ℕ, ◌+◌, ◌≤◌, List, [], ◌�
 use Rattle.datagram.specs.Datagrams.{Datagram, read}
 use Rattle.datagram.specs.Layout.{number_field, ack_wanted, count_field, type_field, crv_field, length_field}
 use Rattle.datagram.specs.Payloads.{Payload, past}
-use Rattle.datagram.specs.Structures.{type_of}
+use Rattle.datagram.specs.Structures.{type_of, content_of}
 
 -- the part of d that has n octets and begins at an offset
 abbrev pub part : List ℕ → ℕ → ℕ → List ℕ
@@ -16,6 +16,7 @@ pub record Lies (d : List ℕ) (at : ℕ) (p : Payload) : Type 0 where
   pub whole : length p.octets ≡ length_field (drop at d)
   pub type : type_of p.content ≡ type_field (drop at d)
   pub crv : p.crv ≡ crv_field (drop at d)
+  pub content : content_of (type_field (drop at d)) p.octets p.offset ≡ Ok p.content
 
 -- each payload begins where the one before it ends, and the last one ends with the datagram
 abbrev pub EndToEnd : List ℕ → ℕ → List Payload → Type 0

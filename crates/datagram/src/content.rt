@@ -40,6 +40,7 @@ impl<'d> Content<'d> {
     // The data of a payload of that type, whose first octet has the offset `offset`. Data and offset stay two arguments, down to the
     // structures: a struct of both would only be made here and taken apart there, and the contract of a reader that answers a question in
     // place of a fault would have to speak of every offset.
+    #[inline(always)]
     pub fn read(kind: u8, data: &'d [u8], offset: usize) -> Result<Content<'d>, Fault>
         ensures { map_ok content_says result ≡ content_of kind «data».now offset }
     {

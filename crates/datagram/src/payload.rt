@@ -18,6 +18,7 @@ pub struct Payload<'d> {
 
 impl<'d> Payload<'d> {
     // `rest` is the datagram from the payload's first octet on, and `at` that octet's offset.
+    #[inline(always)]
     pub(crate) fn read(rest: &'d [u8], at: usize) -> Result<Payload<'d>, Fault>
         requires { at + length rest.now < 2 ^ 64 }
         ensures gives { map_ok payload_says result ≡ payload_at rest.now at }

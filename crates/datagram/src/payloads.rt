@@ -27,6 +27,7 @@ impl<'d> Iterator for Payloads<'d> {
 
     ghost next_gives = { YieldsFirstBy payload_says payloads_say };
 
+    #[inline(always)]
     fn next(&mut self) -> Option<Payload<'d>> {
         self.reader.next().ok().flatten()
     }

@@ -30,7 +30,9 @@ impl<'d> Reader<'d> {
     }
 
     // The next payload; `None` where the datagram ends with its last one. A fault leaves the place as it was, so this is no `Iterator`: a
-    // `for` would meet it again and never end.
+    // `for` would meet it again and never end. In line, as `Payloads::next`, `Payload::read` and `Content::read` are: a caller that looks at
+    // one part of a payload does not wait for the others to be put together.
+    #[inline(always)]
     pub(crate) fn next(&mut self) -> Result<Option<Payload<'d>>, Fault>
         ensures gives { map_ok (option_map payload_says) result ≡ next_at (place_says self.old) }
         ensures moves { place_says self.new ≡ place_after (place_says self.old) }
