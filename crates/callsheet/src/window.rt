@@ -3,7 +3,7 @@ ghost use Rattle.std.specs.Prelude.{◌≡◌, IfOk, string_bytes};
 ghost use Rattle.capture.specs.Views.{place_says};
 ghost use Rattle.callsheet.specs.Windows.{window, window_at, preceded};
 
-use crate::lines::{Front, Lines, StopLine};
+use crate::lines::{StopLine, add_lines};
 use capture::Records;
 use std::alloc::AllocError;
 
@@ -16,15 +16,11 @@ pub(crate) fn add_window(
 ) -> Result<bool, AllocError>
     ensures { IfOk result (λ more. preceded (string_bytes text.old) (window_at last (place_says records.old)) ≡ window (string_bytes text.new) more (place_says records.new)) }
 {
+    // What the lines of a record begin with, one record after another: printed again for each line it took twice the time.
+    let mut front = String::new(*text.allocator());
     loop {
         match records.next() {
-            Ok(Some(record)) => {
-                let lines = Lines(Front {
-                    number: records.before,
-                    record: &record,
-                });
-                write!(text, "{lines}")?;
-            }
+            Ok(Some(record)) => add_lines(text, &mut front, records.before, &record)?,
             Ok(None) => return Ok(!last),
             Err(stop) => {
                 if !last && stop.question.is_turnable() {

@@ -15,6 +15,6 @@ loop-payload-preserved g c = (
       record {
         written = _;
         wrote = has_written_append _ _ _ _ _ _ h.wrote (c.writeln.ensures.writes h.wrote.plain (search rules));
-        all = line_more _ h.written _ _ _ _ _ _ c.in-Some.ensures.steps (search rules) (search rules) (search rules) h.all;
+        all = line_more _ h.written _ _ _ _ _ c.in-Some.ensures.steps (search rules) (search rules) (search rules) h.all;
       },
 )

@@ -10,7 +10,7 @@ pub loop-record-preserved : goal.loop-record-preserved
 loop-record-preserved c =
     let p = place_says c.loop-record.records in
     let e : Ok (Some (record_says c.in-Ok-Some.record)) ≡ next_at p = rw c.in-Ok-Some.field-0-is at c.in-Ok-Some.ensures.gives in
-    c.loop-record.invariant ∙ adds_record c.args.last _ _ p (place_says c.next.new.self) _ _ e c.next.ensures.moves refl c.in_ok-write-in-Ok-Some.ensures.bytes
+    c.loop-record.invariant ∙ adds_record c.args.last _ _ p (place_says c.next.new.self) _ _ e c.next.ensures.moves refl c.in_ok-add_lines-in-Ok-Some.ensures
 
 pub returns-in-Ok-None : goal.returns-in-Ok-None
 returns-in-Ok-None c =
