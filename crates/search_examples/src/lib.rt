@@ -7,7 +7,7 @@ ghost use Rattle.search_examples.specs.Peers.{same_peer, held_under};
 
 use search::{Keyed, find};
 
-// The key: where datagrams of a neighbour come from. (A type of its own, with `==`: the endpoint's `Peer` derives none.)
+// The key: where datagrams of a neighbour come from. (A type of its own: these examples stand on the search alone.)
 #[derive(Clone, Copy, PartialEq, Eq)]
 pub struct Peer {
     pub address: [u8; 4],
